@@ -1,0 +1,12 @@
+pub mod Lists
+pub mod Orders
+pub mod Costs
+pub mod Steps
+pub mod Entries
+pub mod Offers
+pub mod Ranks
+pub mod Local
+pub mod Global
+pub mod Walks
+pub mod Serves
+pub mod Links

@@ -1,0 +1,5 @@
+pub mod Classes
+pub mod Networks
+pub mod Paths
+pub mod Tables
+pub mod Theorems

@@ -1,0 +1,4 @@
+mod ByBytes
+mod Drops
+mod Stages
+pub mod Lines

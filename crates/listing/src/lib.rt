@@ -1,0 +1,89 @@
+// The route lister's work: from the bytes of a link list to what is printed.
+mod page;
+mod routes;
+mod survey;
+pub mod types;
+
+use board::edits::open;
+use link_list::load::load;
+use link_list::types::Cause;
+use link_list::types::Fault;
+use measure::delay::Delay;
+use measure::delay::DelayMeasure;
+use page::page_of;
+use page::put_line;
+use routes::rows_of;
+use routes::settle_all;
+use settle::types::Work;
+use std::alloc::AllocError;
+use std::alloc::Global;
+use stores::grid::GridStore;
+use stores::grid::GridStoreEditable;
+use stores::grid::GridStoreStore;
+use survey::MOST_ASES;
+use survey::survey;
+use table::types::BLANK;
+use table::types::Entry;
+use table::types::Table;
+use types::Listing;
+use waiting::types::Slot;
+
+// The most bytes of a list: 276 lines, one for each pair of 24 ASes.
+pub const MOST_BYTES: usize = 11_316;
+
+// The table of a list whose form is right and which names these ASes.
+fn table_of(heap: Global, text: &[u8], ases: &[u32]) -> Result<Listing, AllocError> {
+    let mut entries = [Entry {
+        next: BLANK,
+        cost: 0u32,
+    }; 2 * MOST_ASES * MOST_ASES];
+    let mut marks = [0u8; MOST_ASES];
+    let mut waiting = [Slot {
+        place: 0,
+        cost: 0u32,
+    }; 2 * MOST_ASES];
+    let mut numbers = [0u32; 2 * MOST_ASES];
+    let mut store = GridStore::new(ases);
+    let mut table = Table {
+        entries: &mut entries,
+        marks: &mut marks,
+    };
+    let mut work = Work {
+        waiting: &mut waiting,
+        numbers: &mut numbers,
+    };
+    if let Err(fault) = load(&mut store, &mut table, text) {
+        return Ok(Listing::Faulty(fault));
+    }
+    let _ = settle_all(&store, &mut table, &mut work, ases);
+    let rows = rows_of(heap, &store, &table, ases)?;
+    Ok(Listing::Table(rows))
+}
+
+// The table of a link list, or its first fault.
+pub fn list_routes(heap: Global, text: &[u8]) -> Result<Listing, AllocError> {
+    if text.len() > MOST_BYTES {
+        return Ok(Listing::Faulty(Fault {
+            cause: Cause::TooLong,
+            line: 0,
+        }));
+    }
+    let mut ases = Vec::with_capacity(heap, MOST_ASES)?;
+    if let Err(fault) = survey(&mut ases, text) {
+        return Ok(Listing::Faulty(fault));
+    }
+    table_of(heap, text, &ases)
+}
+
+// What is printed of a listing.
+pub fn print_listing(heap: Global, listing: &Listing) -> Result<String, AllocError> {
+    match listing {
+        Listing::Table(rows) => page_of(heap, rows),
+        Listing::Faulty(fault) => {
+            let mut text = String::new(heap);
+            let numbers = [fault.number(), fault.line, fault.column(), fault.layer()];
+            put_line(heap, &mut text, &numbers)?;
+            Ok(text)
+        }
+    }
+}

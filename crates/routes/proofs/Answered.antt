@@ -1,0 +1,153 @@
+-- Over a memory that is right where it is marked, send answers what it must. Assumes nothing.
+use mathlib.Core.Path.{_≡_, refl, sym, ap, subst, _∙_}
+use mathlib.Core.Logic.{_⊎_, inl, inr, _≢_}
+use mathlib.Core.Bool.{Bool, true, false, cond, not}
+use mathlib.Core.List.{List, [], _∷_, _++_}
+use Prim.Native.Nat.{ℕ, _+_, _-_, _*_, _<_, _≤_}
+use native.Mathlib.Omega.{arith}
+use lib.Dec.{eqb}
+use lib.ListN.{length, getD, drop}
+use Rattle.std.specs.declared.option.Option.{Option}
+use Rattle.std.specs.declared.option.Option.the-variants.{Some, None}
+use Rattle.std.specs.declared.result.Result.{Result}
+use Rattle.std.specs.declared.result.Result.the-variants.{Ok, Err}
+use Rattle.std.specs.Options.{isSome}
+use Rattle.std.proofs.shelf.Tests.{cases-bool, cases-eq, cases-lt, eqb-true, cond-false}
+use Rattle.network.specs.declared.types.Link.{Link}
+use Rattle.network.specs.Rosters.{Among, place}
+use Rattle.network.specs.Sound as store
+use Rattle.network.proofs.Rising.{Stands, place-stands, stands-among}
+use Rattle.network.proofs.Somes.{same-pair}
+use Rattle.measure.specs.Measures.{Measure, Laws, AtMost}
+use Rattle.legality.specs.declared.types.Class.the-variants.{Home}
+use Rattle.legality.specs.Networks.{Network, Sound, net-of}
+use Rattle.legality.specs.Paths.{Route, First, cost}
+use Rattle.legality.specs.Tables.{Walk}
+use Rattle.legality.proofs.Entries.{no-path-at}
+use Rattle.legality.proofs.Local.{optimal}
+use Rattle.legality.proofs.Walks.{walk}
+use Rattle.legality.proofs.Links.{network-sound}
+use Rattle.table.specs.declared.types.Entry.{Entry}
+use Rattle.table.specs.declared.types.RouteRefusal.{RouteRefusal}
+use Rattle.table.specs.declared.types.RouteRefusal.the-variants.{TableTooSmall, UnknownAs, NotSettled}
+use Rattle.table.specs.Memory.{small, decoded, Column}
+use Rattle.table.specs.Columns.{read}
+use Rattle.table.proofs.Rows.{read-blank, read-filled}
+use Rattle.routes.specs.Raw.{walk as raw-walk, then, spots, judged, entry-at, owed, fitting, send-from, sending, send-answer, send-list}
+use Rattle.routes.specs.Routes.{has, refusal, Sends, Holds}
+use Rattle.routes.proofs.Sent.{open-path, shut-path, fits, exceeds}
+use Rattle.routes.proofs.Right.{local, same-place, table-at, owed-is, walk-is, walks-is}
+
+module _ {C : Type 0} (m : Measure C) (laws : Laws m) (roster : List ℕ) (book : List Link) (sound : store.Sound roster book)
+    (settled : List ℕ) (entries : List (Entry C)) (marks : List ℕ) (holds : Holds m roster book settled entries marks) where
+  abbrev net : Network
+  net = net-of roster book
+
+  -- a question is refused for its first cause, or accepted
+  data Cause (s d : ℕ) : Type 0 where
+    refused : (x : RouteRefusal) → judged roster entries marks s d ≡ Err x → refusal roster settled s d ≡ Some x → Cause s d
+    accepted : (i j : ℕ) → judged roster entries marks s d ≡ Ok (i, j) → refusal roster settled s d ≡ None → place roster s ≡ Some i → place roster d ≡ Some j → getD marks j 0 ≡ 1 → Cause s d
+
+  abbrev causes : Bool → Bool → Bool → Option RouteRefusal
+  causes a b c = cond (not a) (Some UnknownAs) (cond (not b) (Some UnknownAs) (cond (not c) (Some NotSettled) None))
+
+  cause : (s d : ℕ) → Cause s d
+  cause s d = go (place roster s) refl (place roster d) refl
+    where
+      large : judged roster entries marks s d ≡ spots (place roster s) (place roster d) marks
+      large = cond-false (small (length roster) entries marks) (Err TableTooSmall) (spots (place roster s) (place roster d) marks) (holds .enough)
+
+      go : (o : Option ℕ) → place roster s ≡ o → (q : Option ℕ) → place roster d ≡ q → Cause s d
+      go None hs q hd =
+          let a : isSome (place roster s) ≡ false = ap isSome hs in
+          Cause.refused UnknownAs (large ∙ ap (λ o. spots o (place roster d) marks) hs) (ap (λ z. causes z (isSome (place roster d)) (has settled d)) a)
+      go (Some i) hs None hd =
+          let a : isSome (place roster s) ≡ true = ap isSome hs in
+          let b : isSome (place roster d) ≡ false = ap isSome hd in
+          Cause.refused UnknownAs (large ∙ ap (λ o. spots o (place roster d) marks) hs ∙ ap (λ o. spots (Some i) o marks) hd) (ap (λ z. causes z (isSome (place roster d)) (has settled d)) a ∙ ap (λ z. causes true z (has settled d)) b)
+      go (Some i) hs (Some j) hd = at (cases-bool (eqb (getD marks j 0) 1))
+        where
+          a : isSome (place roster s) ≡ true
+          a = ap isSome hs
+
+          b : isSome (place roster d) ≡ true
+          b = ap isSome hd
+
+          so : judged roster entries marks s d ≡ cond (eqb (getD marks j 0) 1) (Ok (i, j)) (Err NotSettled)
+          so = large ∙ ap (λ o. spots o (place roster d) marks) hs ∙ ap (λ o. spots (Some i) o marks) hd
+
+          why : refusal roster settled s d ≡ causes true true (has settled d)
+          why = ap (λ z. causes z (isSome (place roster d)) (has settled d)) a ∙ ap (λ z. causes true z (has settled d)) b
+
+          at : (eqb (getD marks j 0) 1 ≡ true) ⊎ (eqb (getD marks j 0) 1 ≡ false) → Cause s d
+          at (inl y) =
+              Cause.accepted i j (so ∙ ap (λ z. cond {A = Result (ℕ × ℕ) RouteRefusal} z (Ok (i, j)) (Err NotSettled)) y) (why ∙ ap (causes true true) (holds .marked d j hd ∙ y)) hs hd (eqb-true (getD marks j 0) 1 y)
+          at (inr n) =
+              Cause.refused NotSettled (so ∙ ap (λ z. cond {A = Result (ℕ × ℕ) RouteRefusal} z (Ok (i, j)) (Err NotSettled)) n) (why ∙ ap (causes true true) (holds .marked d j hd ∙ n))
+
+  pub sends : (s d : ℕ) (ws : List ℕ) → Sends m roster book settled s d ws (send-answer (sending m (net-of roster book) entries marks s d (length ws))) (send-list ws (sending m (net-of roster book) entries marks s d (length ws)))
+  sends s d ws = go (cause s d)
+    where
+      Answer : Result (List ℕ × C) RouteRefusal → Type 0
+      Answer r = Sends m roster book settled s d ws (send-answer r) (send-list ws r)
+
+      go : Cause s d → Answer (sending m net entries marks s d (length ws))
+      go (Cause.refused x h why) = subst Answer (sym (ap (λ r. then r (send-from m net entries (length ws))) h)) (Sends.refused x why)
+      go (Cause.accepted i j h why hs hd marked) = subst Answer (sym (ap (λ r. then r (send-from m net entries (length ws))) h)) (at (cases-eq i j) (cases-eq (x .next) 65535))
+        where
+          x : Entry C
+          x = entry-at m net entries j i Home
+
+          column : Column m roster book entries d j
+          column = holds .right d j hd marked
+
+          source : Stands roster s i
+          source = place-stands roster s i hs
+
+          near : Among s roster
+          near = subst (λ a. Among a roster) (source .is) (stands-among roster i (source .within))
+
+          table : decoded m roster j entries s Home ≡ read roster x
+          table = ap (λ a. decoded m roster j entries a Home) (sym (source .is)) ∙ table-at m laws roster book sound entries d j hd column i Home (source .within)
+
+          -- where the entry is filled
+          walked : (b : ℕ) (c : C) → decoded m roster j entries s Home ≡ Some (b, c) → (i ≡ j) ⊎ (x .next ≢ 65535) → Answer (send-from m net entries (length ws) (i, j))
+          walked b c filled free = subst Answer (sym (ap (λ r. then r (fitting (length ws) (owed m net entries j i Home))) (open-path m net entries i j free ∙ walk-as))) (room (cases-lt (length ws) (length q)))
+            where
+              w : Walk m net (decoded m roster j entries) d s Home c
+              w = walk laws (network-sound roster book sound) (decoded m roster j entries) d (local m laws roster book sound entries d j hd column) s Home b c near filled
+
+              q : List ℕ
+              q = w .ases
+
+              walk-as : raw-walk m net entries (2 * length roster) j i Home ≡ Ok q
+              walk-as = walk-is m laws roster book sound entries d j hd column q (2 * length roster) i Home (source .within) (subst (λ a. First a q) (sym (source .is)) (w .route .first)) (w .follows) (omega (arith, w .short))
+
+              worth : owed m net entries j i Home ≡ cost m net q
+              worth = owed-is m laws roster book sound entries d j hd column i Home b c (source .within) (ap (λ a. decoded m roster j entries a Home) (source .is) ∙ filled) ∙ sym (w .costs)
+
+              some : (p : List ℕ) → First s p → length p ≡ length p - 1 + 1
+              some [] f = absurd f
+              some (y ∷ p) f = omega arith
+
+              room : (length ws < length q) ⊎ (length q ≤ length ws) → Answer (fitting (length ws) (owed m net entries j i Home) q)
+              room (inl l) = subst Answer (sym (exceeds (length ws) (owed m net entries j i Home) q l)) (Sends.long q why (w .route) (walks-is m laws roster book sound entries d j hd column q Home (w .follows)) l)
+              room (inr l) =
+                  subst Answer (sym (fits (length ws) (owed m net entries j i Home) q l))
+                  (subst (λ v. Sends m roster book settled s d ws (Ok (v, length q - 1)) (q ++ drop (length q) ws)) (sym worth)
+                  (Sends.sent q (length q - 1) why (w .route) (walks-is m laws roster book sound entries d j hd column q Home (w .follows)) least (some q (w .route .first)) l))
+                where
+                  least : (r : List ℕ) → Route net Home s d r → AtMost m (cost m net q) (cost m net r)
+                  least r h =
+                      let k = optimal laws (network-sound roster book sound) (decoded m roster j entries) d (local m laws roster book sound entries d j hd column) r Home s h in
+                      subst (λ v. AtMost m v (cost m net r)) (same-pair (k .holds) filled .1 ∙ sym (w .costs)) (k .cheap)
+
+          at : (i ≡ j) ⊎ (i ≢ j) → (x .next ≡ 65535) ⊎ (x .next ≢ 65535) → Answer (send-from m net entries (length ws) (i, j))
+          at (inl y) z =
+              let same : s ≡ d = sym (source .is) ∙ ap (λ k. getD roster k 0) y ∙ place-stands roster d j hd .is in
+              walked d (m .start) (ap (λ a. decoded m roster j entries a Home) same ∙ column .shortest .arrived Home) (inl y)
+          at (inr n) (inr k) = walked (getD roster (x .next) 0) (x .cost) (table ∙ read-filled roster x k) (inr k)
+          at (inr n) (inl y) =
+              let away : s ≢ d = λ z. n (same-place m laws roster book sound entries d j hd column i (source .within) (source .is ∙ z)) in
+              subst Answer (sym (ap (λ r. then r (fitting (length ws) (owed m net entries j i Home))) (shut-path m net entries i j n y)))
+              (Sends.shut why (no-path-at (column .shortest .elsewhere s near away Home) (table ∙ read-blank roster x y)))

@@ -1,0 +1,4 @@
+pub mod Raw
+pub mod Walks
+pub mod Routes
+pub mod Theorems

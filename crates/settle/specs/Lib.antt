@@ -1,0 +1,4 @@
+pub mod Offers
+pub mod States
+pub mod Memory
+pub mod Settled

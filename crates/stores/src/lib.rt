@@ -1,0 +1,4 @@
+// Stores of links.
+mod entries;
+pub mod grid;
+mod rosters;

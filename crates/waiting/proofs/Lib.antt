@@ -1,0 +1,5 @@
+pub mod Answers
+mod Held
+mod Changes
+pub mod Rooms
+mod Sooner

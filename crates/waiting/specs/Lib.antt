@@ -1,0 +1,4 @@
+pub mod Slots
+pub mod Calls
+pub mod Lists
+pub mod Numbers
