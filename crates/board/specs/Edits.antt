@@ -2,14 +2,14 @@
 use mathlib.Core.Path.{_≡_}
 use mathlib.Core.Bool.{Bool}
 use mathlib.Core.List.{List, [], _∷_, _++_}
-use Prim.Native.Nat.{ℕ}
+use Prim.Native.Nat.{ℕ, min, max}
 use lib.ListN.{length, drop, replicate}
 use Rattle.std.specs.declared.result.Result.{Result}
 use Rattle.network.specs.declared.types.Link.{Link}
 use Rattle.network.specs.declared.types.Figures.{Figures}
 use Rattle.network.specs.declared.types.EditRefusal.{EditRefusal}
-use Rattle.network.specs.Books.{added, entered, relation-of}
-use Rattle.network.specs.Causes.{first-cause, link-causes}
+use Rattle.network.specs.Books.{added, recosted, without, entered, relation-of}
+use Rattle.network.specs.Causes.{first-cause, link-causes, recost-causes, unlink-causes}
 use Rattle.network.specs.Edits.{answered, unless}
 use Rattle.table.specs.declared.types.Entry.{Entry}
 use Rattle.table.specs.Memory.{small}
@@ -43,3 +43,11 @@ pub record Board-edits {C : Type 0} (causes : List (BoardRefusal × Bool)) (next
 abbrev pub Board-links : {C : Type 0} → ℕ → ℕ → ℕ → Figures → List ℕ → List ℕ → List Link → List Link → ℕ → ℕ → List (Entry C) → List (Entry C) → List ℕ → List ℕ → Result (Unit {0}) BoardRefusal → Type 0
 Board-links a b relation f roster roster′ book book′ limit limit′ entries entries′ marks marks′ r =
     Board-edits ((TableTooSmall, small (length roster) entries marks) ∷ told (link-causes roster book limit a b relation f)) (added book (entered a b (relation-of relation) f)) roster roster′ book book′ limit limit′ entries entries′ marks marks′ r
+
+abbrev pub Board-recosts : {C : Type 0} → ℕ → ℕ → Figures → List ℕ → List ℕ → List Link → List Link → ℕ → ℕ → List (Entry C) → List (Entry C) → List ℕ → List ℕ → Result (Unit {0}) BoardRefusal → Type 0
+Board-recosts a b f roster roster′ book book′ limit limit′ entries entries′ marks marks′ r =
+    Board-edits ((TableTooSmall, small (length roster) entries marks) ∷ told (recost-causes roster book a b f)) (recosted book (min a b) (max a b) f) roster roster′ book book′ limit limit′ entries entries′ marks marks′ r
+
+abbrev pub Board-unlinks : {C : Type 0} → ℕ → ℕ → List ℕ → List ℕ → List Link → List Link → ℕ → ℕ → List (Entry C) → List (Entry C) → List ℕ → List ℕ → Result (Unit {0}) BoardRefusal → Type 0
+Board-unlinks a b roster roster′ book book′ limit limit′ entries entries′ marks marks′ r =
+    Board-edits ((TableTooSmall, small (length roster) entries marks) ∷ told (unlink-causes roster book a b)) (without book (min a b) (max a b)) roster roster′ book book′ limit limit′ entries entries′ marks marks′ r

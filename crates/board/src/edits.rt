@@ -4,7 +4,7 @@ ghost use Prim.Native.Nat.{_≤_};
 ghost use lib.ListN.{length};
 ghost use denote.Ref.{name};
 ghost use Rattle.table.specs.Memory.{small};
-ghost use Rattle.board.specs.Edits.{cleared, Opens, Board-links};
+ghost use Rattle.board.specs.Edits.{cleared, Opens, Board-links, Board-recosts, Board-unlinks};
 use crate::types::BoardRefusal;
 use crate::types::BoardRefusalFromEdit;
 use network::stores::EditableStore;
@@ -61,6 +61,47 @@ pub fn link<S: EditableStore, C: Copy>(
         return Err(BoardRefusal::TableTooSmall);
     }
     store.link(first, second, relation, figures)?;
+    let Table { entries: _, marks } = table;
+    clear(marks, n);
+    Ok(())
+}
+
+// Gives a link new figures; its relation stays.
+pub fn recost<S: EditableStore, C: Copy>(
+    store: &mut S,
+    table: &mut Table<'_, '_, C>,
+    first: u32,
+    second: u32,
+    figures: Figures,
+) -> Result<(), BoardRefusal>
+    ensures named { λ _. ⌜ name (now (table .exit) .entries) ≡ name (now (table .entry) .entries) ⌝ ∗ ⌜ name (now (table .exit) .marks) ≡ name (now (table .entry) .marks) ⌝ }
+    ensures recosts { λ r. ⌜ Board-recosts first second figures (S·Store .roster (now (store .entry))) (S·Store .roster (now (store .exit))) (S·Store .book (now (store .entry))) (S·Store .book (now (store .exit))) (limit (now (store .entry))) (limit (now (store .exit))) (now (now (table .entry) .entries)) (now (now (table .exit) .entries)) (now (now (table .entry) .marks)) (now (now (table .exit) .marks)) r ⌝ }
+{
+    let n = store.as_count();
+    if is_small(table, n) {
+        return Err(BoardRefusal::TableTooSmall);
+    }
+    store.recost(first, second, figures)?;
+    let Table { entries: _, marks } = table;
+    clear(marks, n);
+    Ok(())
+}
+
+// Takes a link out of the book.
+pub fn unlink<S: EditableStore, C: Copy>(
+    store: &mut S,
+    table: &mut Table<'_, '_, C>,
+    first: u32,
+    second: u32,
+) -> Result<(), BoardRefusal>
+    ensures named { λ _. ⌜ name (now (table .exit) .entries) ≡ name (now (table .entry) .entries) ⌝ ∗ ⌜ name (now (table .exit) .marks) ≡ name (now (table .entry) .marks) ⌝ }
+    ensures unlinks { λ r. ⌜ Board-unlinks first second (S·Store .roster (now (store .entry))) (S·Store .roster (now (store .exit))) (S·Store .book (now (store .entry))) (S·Store .book (now (store .exit))) (limit (now (store .entry))) (limit (now (store .exit))) (now (now (table .entry) .entries)) (now (now (table .exit) .entries)) (now (now (table .entry) .marks)) (now (now (table .exit) .marks)) r ⌝ }
+{
+    let n = store.as_count();
+    if is_small(table, n) {
+        return Err(BoardRefusal::TableTooSmall);
+    }
+    store.unlink(first, second)?;
     let Table { entries: _, marks } = table;
     clear(marks, n);
     Ok(())

@@ -1,2 +1,4 @@
+pub mod Listings
 pub mod Pages
+pub mod Rows
 pub mod Surveys

@@ -1,19 +1,25 @@
 // The route lister's work: from the bytes of a link list to what is printed.
+ghost use mathlib.Core.Path.{_≡_};
+ghost use mathlib.Core.Bool.{true};
+ghost use Prim.Native.Nat.{_≤_};
+ghost use lib.ListN.{length};
+ghost use Rattle.std.specs.Of.String.{string-bytes};
+ghost use Rattle.std.specs.Vec.{made};
+ghost use Rattle.network.specs.Rosters.{climbs};
+ghost use Rattle.listing.specs.Listings.{Tables, Lists};
+ghost use Rattle.listing.specs.Pages.{line as line-of, fault-numbers, printed};
+
+mod fill;
 mod page;
 mod routes;
 mod survey;
 pub mod types;
 
-use board::edits::open;
-use link_list::load::load;
+use fill::fill_table;
 use link_list::types::Cause;
 use link_list::types::Fault;
-use measure::delay::Delay;
-use measure::delay::DelayMeasure;
 use page::page_of;
 use page::put_line;
-use routes::rows_of;
-use routes::settle_all;
 use settle::types::Work;
 use std::alloc::AllocError;
 use std::alloc::Global;
@@ -32,13 +38,17 @@ use waiting::types::Slot;
 pub const MOST_BYTES: usize = 11_316;
 
 // The table of a list whose form is right and which names these ASes.
-fn table_of(heap: Global, text: &[u8], ases: &[u32]) -> Result<Listing, AllocError> {
+fn table_of(heap: Global, text: &[u8], ases: &[u32]) -> Result<Listing, AllocError>
+    requires few { ⌜ length (now ases) ≤ 24 ⌝ }
+    requires rising { ⌜ climbs 0 (now ases) ≡ true ⌝ }
+    ensures { λ r. ⌜ made r (λ l. Tables (now (ases .entry)) (now (text .entry)) l) ⌝ }
+{
     let mut entries = [Entry {
         next: BLANK,
         cost: 0u32,
     }; 2 * MOST_ASES * MOST_ASES];
     let mut marks = [0u8; MOST_ASES];
-    let mut waiting = [Slot {
+    let mut slots = [Slot {
         place: 0,
         cost: 0u32,
     }; 2 * MOST_ASES];
@@ -49,19 +59,16 @@ fn table_of(heap: Global, text: &[u8], ases: &[u32]) -> Result<Listing, AllocErr
         marks: &mut marks,
     };
     let mut work = Work {
-        waiting: &mut waiting,
+        waiting: &mut slots,
         numbers: &mut numbers,
     };
-    if let Err(fault) = load(&mut store, &mut table, text) {
-        return Ok(Listing::Faulty(fault));
-    }
-    let _ = settle_all(&store, &mut table, &mut work, ases);
-    let rows = rows_of(heap, &store, &table, ases)?;
-    Ok(Listing::Table(rows))
+    fill_table(heap, text, ases, &mut store, &mut table, &mut work)
 }
 
 // The table of a link list, or its first fault.
-pub fn list_routes(heap: Global, text: &[u8]) -> Result<Listing, AllocError> {
+pub fn list_routes(heap: Global, text: &[u8]) -> Result<Listing, AllocError>
+    ensures { λ r. ⌜ made r (λ l. Lists (now (text .entry)) l) ⌝ }
+{
     if text.len() > MOST_BYTES {
         return Ok(Listing::Faulty(Fault {
             cause: Cause::TooLong,
@@ -76,14 +83,21 @@ pub fn list_routes(heap: Global, text: &[u8]) -> Result<Listing, AllocError> {
 }
 
 // What is printed of a listing.
-pub fn print_listing(heap: Global, listing: &Listing) -> Result<String, AllocError> {
+pub fn print_listing(heap: Global, listing: &Listing) -> Result<String, AllocError>
+    ensures { λ r. ⌜ made r (λ text. string-bytes text ≡ printed (now (listing .entry))) ⌝ }
+{
     match listing {
         Listing::Table(rows) => page_of(heap, rows),
-        Listing::Faulty(fault) => {
-            let mut text = String::new(heap);
-            let numbers = [fault.number(), fault.line, fault.column(), fault.layer()];
-            put_line(heap, &mut text, &numbers)?;
-            Ok(text)
-        }
+        Listing::Faulty(fault) => fault_line(heap, *fault),
     }
+}
+
+// The line of a fault.
+fn fault_line(heap: Global, fault: Fault) -> Result<String, AllocError>
+    ensures { λ r. ⌜ made r (λ text. string-bytes text ≡ line-of (fault-numbers fault)) ⌝ }
+{
+    let mut text = String::new(heap);
+    let numbers = [fault.number(), fault.line, fault.column(), fault.layer()];
+    put_line(heap, &mut text, &numbers)?;
+    Ok(text)
 }

@@ -1,4 +1,4 @@
--- Over a memory that is right where it is marked, send answers what it must. Assumes nothing.
+-- Over a memory that is right where it is marked, hop and send answer what they must. Assumes nothing.
 use mathlib.Core.Path.{_≡_, refl, sym, ap, subst, _∙_}
 use mathlib.Core.Logic.{_⊎_, inl, inr, _≢_}
 use mathlib.Core.Bool.{Bool, true, false, cond, not}
@@ -12,29 +12,30 @@ use Rattle.std.specs.declared.option.Option.the-variants.{Some, None}
 use Rattle.std.specs.declared.result.Result.{Result}
 use Rattle.std.specs.declared.result.Result.the-variants.{Ok, Err}
 use Rattle.std.specs.Options.{isSome}
-use Rattle.std.proofs.shelf.Tests.{cases-bool, cases-eq, cases-lt, eqb-true, cond-false}
+use Rattle.std.proofs.shelf.Tests.{cases-bool, cases-eq, cases-lt, eqb-true, eq-eqb, ne-eqb, cond-true, cond-false}
 use Rattle.network.specs.declared.types.Link.{Link}
-use Rattle.network.specs.Rosters.{Among, place}
+use Rattle.network.specs.Rosters.{Among, place, at as as-at}
 use Rattle.network.specs.Sound as store
-use Rattle.network.proofs.Rising.{Stands, place-stands, stands-among}
+use Rattle.network.proofs.Rising.{Stands, at-known, place-stands, stands-among}
 use Rattle.network.proofs.Somes.{same-pair}
 use Rattle.measure.specs.Measures.{Measure, Laws, AtMost}
+use Rattle.legality.specs.declared.types.Class.{Class}
 use Rattle.legality.specs.declared.types.Class.the-variants.{Home}
 use Rattle.legality.specs.Networks.{Network, Sound, net-of}
 use Rattle.legality.specs.Paths.{Route, First, cost}
 use Rattle.legality.specs.Tables.{Walk}
-use Rattle.legality.proofs.Entries.{no-path-at}
+use Rattle.legality.proofs.Entries.{shortest-at, no-path-at}
 use Rattle.legality.proofs.Local.{optimal}
 use Rattle.legality.proofs.Walks.{walk}
 use Rattle.legality.proofs.Links.{network-sound}
 use Rattle.table.specs.declared.types.Entry.{Entry}
 use Rattle.table.specs.declared.types.RouteRefusal.{RouteRefusal}
-use Rattle.table.specs.declared.types.RouteRefusal.the-variants.{TableTooSmall, UnknownAs, NotSettled}
+use Rattle.table.specs.declared.types.RouteRefusal.the-variants.{TableTooSmall, UnknownAs, NotSettled, NoPath}
 use Rattle.table.specs.Memory.{small, decoded, Column}
 use Rattle.table.specs.Columns.{read}
-use Rattle.table.proofs.Rows.{read-blank, read-filled}
-use Rattle.routes.specs.Raw.{walk as raw-walk, then, spots, judged, entry-at, owed, fitting, send-from, sending, send-answer, send-list}
-use Rattle.routes.specs.Routes.{has, refusal, Sends, Holds}
+use Rattle.table.proofs.Rows.{read-blank, read-filled, row-below}
+use Rattle.routes.specs.Raw.{walk as raw-walk, then, unless-false, spots, judged, entry-at, hop-by, hop-from, hop-answer, owed, fitting, send-from, sending, send-answer, send-list}
+use Rattle.routes.specs.Routes.{has, refusal, Hops, Sends, Holds}
 use Rattle.routes.proofs.Sent.{open-path, shut-path, fits, exceeds}
 use Rattle.routes.proofs.Right.{local, same-place, table-at, owed-is, walk-is, walks-is}
 
@@ -84,6 +85,51 @@ module _ {C : Type 0} (m : Measure C) (laws : Laws m) (roster : List ℕ) (book 
               Cause.accepted i j (so ∙ ap (λ z. cond {A = Result (ℕ × ℕ) RouteRefusal} z (Ok (i, j)) (Err NotSettled)) y) (why ∙ ap (causes true true) (holds .marked d j hd ∙ y)) hs hd (eqb-true (getD marks j 0) 1 y)
           at (inr n) =
               Cause.refused NotSettled (so ∙ ap (λ z. cond {A = Result (ℕ × ℕ) RouteRefusal} z (Ok (i, j)) (Err NotSettled)) n) (why ∙ ap (causes true true) (holds .marked d j hd ∙ n))
+
+  pub hops : (s : ℕ) (e : Class) (d : ℕ) → Hops m roster book settled s e d (hop-answer m (net-of roster book) entries marks s e d)
+  hops s e d = go (cause s d)
+    where
+      Answer : Result (Option ℕ) RouteRefusal → Type 0
+      Answer = Hops m roster book settled s e d
+
+      go : Cause s d → Answer (hop-answer m net entries marks s e d)
+      go (Cause.refused x h why) = subst Answer (sym (ap (λ r. then r (hop-from m net entries e)) h)) (Hops.refused x why)
+      go (Cause.accepted i j h why hs hd marked) = subst Answer (sym (ap (λ r. then r (hop-from m net entries e)) h)) (at (cases-eq i j))
+        where
+          x : Entry C
+          x = entry-at m net entries j i e
+
+          column : Column m roster book entries d j
+          column = holds .right d j hd marked
+
+          source : Stands roster s i
+          source = place-stands roster s i hs
+
+          table : decoded m roster j entries s e ≡ read roster x
+          table = ap (λ a. decoded m roster j entries a e) (sym (source .is)) ∙ table-at m laws roster book sound entries d j hd column i e (source .within)
+
+          at : (i ≡ j) ⊎ (i ≢ j) → Answer (hop-from m net entries e (i, j))
+          at (inl y) = subst Answer (sym (cond-true (eqb i j) (Ok None) (hop-by m net entries x) (eq-eqb i j y))) (Hops.there why (sym (source .is) ∙ ap (λ k. getD roster k 0) y ∙ place-stands roster d j hd .is))
+          at (inr n) = subst Answer (sym (cond-false (eqb i j) (Ok None) (hop-by m net entries x) (ne-eqb i j n))) (by (cases-eq (x .next) 65535))
+            where
+              away : s ≢ d
+              away z = n (same-place m laws roster book sound entries d j hd column i (source .within) (source .is ∙ z))
+
+              near : Among s roster
+              near = subst (λ a. Among a roster) (source .is) (stands-among roster i (source .within))
+
+              onward : Result (Option ℕ) RouteRefusal
+              onward = unless-false (as-at roster (x .next)) (λ a. Ok (Some a))
+
+              by : (x .next ≡ 65535) ⊎ (x .next ≢ 65535) → Answer (hop-by m net entries x)
+              by (inl y) =
+                  subst Answer (sym (cond-true (eqb (x .next) 65535) (Err NoPath) onward (eq-eqb (x .next) 65535 y)))
+                  (Hops.shut why away (no-path-at (column .shortest .elsewhere s near away e) (table ∙ read-blank roster x y)))
+              by (inr k) =
+                  let low : x .next < length roster = row-below (m .start) (length roster) x (column .rows i e (source .within)) k in
+                  subst Answer
+                  (sym (cond-false (eqb (x .next) 65535) (Err NoPath) onward (ne-eqb (x .next) 65535 k) ∙ ap (λ o. unless-false o (λ a. Ok (Some a))) (at-known roster (x .next) 0 low)))
+                  (Hops.next (getD roster (x .next) 0) (x .cost) why away (shortest-at (column .shortest .elsewhere s near away e) (table ∙ read-filled roster x k)))
 
   pub sends : (s d : ℕ) (ws : List ℕ) → Sends m roster book settled s d ws (send-answer (sending m (net-of roster book) entries marks s d (length ws))) (send-list ws (sending m (net-of roster book) entries marks s d (length ws)))
   sends s d ws = go (cause s d)

@@ -66,6 +66,18 @@ module _ {C : Type 0} (m : Measure C) (net : Network) (entries : List (Entry C))
   abbrev pub named : ℕ → ℕ
   named i = getD (net .roster) i 0
 
+  -- what the entry x says of the next AS
+  abbrev pub hop-by : Entry C → Result (Option ℕ) RouteRefusal
+  hop-by x = cond (eqb (x .next) 65535) (Err NoPath) (unless-false (at (net .roster) (x .next)) (λ a. Ok (Some a)))
+
+  -- nothing at the destination, whose entries are not read
+  abbrev pub hop-from : Class → ℕ × ℕ → Result (Option ℕ) RouteRefusal
+  hop-from e p = cond (eqb (p .0) (p .1)) (Ok None) (hop-by (entry-at (p .1) (p .0) e))
+
+  -- what hop answers
+  abbrev pub hop-answer : List ℕ → ℕ → Class → ℕ → Result (Option ℕ) RouteRefusal
+  hop-answer marks s e d = then (judged (net .roster) entries marks s d) (hop-from e)
+
   -- the cost from the AS at i on, to the AS at j
   abbrev pub owed : ℕ → ℕ → Class → C
   owed j i e = cond (eqb i j) (m .start) (entry-at j i e .cost)

@@ -1,4 +1,4 @@
--- What send must answer over a table memory that is right where it is marked, in the subject's words. Assumes nothing.
+-- What hop and send must answer over a table memory that is right where it is marked, in the subject's words. Assumes nothing.
 use mathlib.Core.Path.{_≡_}
 use mathlib.Core.Logic.{_≢_}
 use mathlib.Core.Bool.{Bool, false, not, _||_}
@@ -44,6 +44,13 @@ Walks m net d e [] = ⊥
 Walks m net d e (a ∷ []) = a ≡ d
 Walks {C} m net d e (a ∷ (b ∷ r)) =
     (a ≢ d) × ((c : C) × Shortest m net d a e b c) × ((w : Relation) × (f : Figures) × (e′ : Class) × (net .step a b ≡ Some (w, f)) × (allowed e w ≡ Some e′) × Walks m net d e′ (b ∷ r))
+
+-- what a hop from s to d must answer traffic of the class e
+pub data Hops {C : Type 0} (m : Measure C) (roster : List ℕ) (book : List Link) (settled : List ℕ) (s : ℕ) (e : Class) (d : ℕ) : Result (Option ℕ) RouteRefusal → Type 0 where
+  refused : (x : RouteRefusal) → refusal roster settled s d ≡ Some x → Hops m roster book settled s e d (Err x)
+  there : refusal roster settled s d ≡ None → s ≡ d → Hops m roster book settled s e d (Ok None)
+  shut : refusal roster settled s d ≡ None → s ≢ d → ((q : List ℕ) → ¬ Route (net-of roster book) e s d q) → Hops m roster book settled s e d (Err NoPath)
+  next : (b : ℕ) (c : C) → refusal roster settled s d ≡ None → s ≢ d → Shortest m (net-of roster book) d s e b c → Hops m roster book settled s e d (Ok (Some b))
 
 -- what a send from s to d must answer, and what its list, ws before, holds then
 pub data Sends {C : Type 0} (m : Measure C) (roster : List ℕ) (book : List Link) (settled : List ℕ) (s d : ℕ) (ws : List ℕ) : Result (C × ℕ) RouteRefusal → List ℕ → Type 0 where

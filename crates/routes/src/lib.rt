@@ -2,8 +2,8 @@
 ghost use mathlib.Core.Path.{_≡_};
 ghost use lib.ListN.{length};
 ghost use Rattle.legality.specs.Networks.{net-of};
-ghost use Rattle.routes.specs.Theorems.{Sends-right, Sends-few};
-ghost use Rattle.routes.specs.Raw.{judged, sending, send-answer, send-list};
+ghost use Rattle.routes.specs.Theorems.{Hops-right, Sends-right, Sends-few};
+ghost use Rattle.routes.specs.Raw.{judged, hop-answer, sending, send-answer, send-list};
 
 mod cells;
 mod walk;
@@ -46,6 +46,32 @@ fn judge<S: Store, C: Copy>(
     Ok((from, to))
 }
 
+// The next AS from `source` to `destination` for traffic of a class, by the table; none at the destination.
+pub fn hop<S: Store, M: Measure>(
+    store: &S,
+    table: &Table<'_, '_, M::Cost>,
+    source: u32,
+    class: Class,
+    destination: u32,
+) -> Result<Option<u32>, RouteRefusal>
+    ensures { λ r. ⌜ r ≡ hop-answer measure (net-of (roster (now (store .entry))) (book (now (store .entry)))) (now (now (table .entry) .entries)) (now (now (table .entry) .marks)) source class destination ⌝ }
+{
+    let entries = &*table.entries;
+    let marks = &*table.marks;
+    let (from, to) = judge(store, entries, marks, source, destination)?;
+    if from == to {
+        return Ok(None);
+    }
+    let entry = entry_of::<S, M>(store, entries, to, from, class);
+    if entry.next == BLANK {
+        return Err(RouteRefusal::NoPath);
+    }
+    let Some(next) = store.as_at(entry.next as usize) else {
+        return Err(RouteRefusal::FalseEntry);
+    };
+    Ok(Some(next))
+}
+
 // What `send` does, over the parts of the table.
 fn send_by<S: Store, M: Measure>(
     store: &S,
@@ -83,6 +109,14 @@ pub fn send<S: Store, M: Measure>(
     let entries = &*table.entries;
     let marks = &*table.marks;
     send_by::<S, M>(store, entries, marks, source, destination, list)
+}
+
+// Where each marked column has the cheapest legal paths, hop answers what it must: the smallest next AS of a cheapest path that is open to the
+// class, or that there is none, and meets no false entry.
+pub fn hops_right<M: Measure>() -> u8
+    ensures { λ _. ⌜ Hops-right measure ⌝ }
+{
+    0
 }
 
 // Where each marked column has the cheapest legal paths, send answers what it must: the path that goes by the smallest next ASes of cheapest

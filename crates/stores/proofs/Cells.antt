@@ -32,6 +32,10 @@ pub filled-empty : (n : ℕ) → filled (replicate n None) ≡ []
 filled-empty zero = refl
 filled-empty (suc n) = filled-empty n
 
+pub fit-empty : (roster : List ℕ) (k n : ℕ) → fit roster k (replicate n None) ≡ true
+fit-empty roster k zero = refl
+fit-empty roster k (suc n) = fit-empty roster (suc k) n
+
 -- the pair of the ASes whose cell is k, if they were in any order
 pub record Pair (roster : List ℕ) (k low high : ℕ) : Type 0 where
   pub row : k / 24 < length roster
@@ -45,7 +49,7 @@ pub record Placed (roster : List ℕ) (k : ℕ) (l : Link) : Type 0 where
   pub pair : Pair roster k (l .low) (l .high)
   pub limits : Limits (l .figures)
 
-limits-from : (f : Figures) → (in-limits (f .delay) && in-limits (f .width)) ≡ true → Limits f
+pub limits-from : (f : Figures) → (in-limits (f .delay) && in-limits (f .width)) ≡ true → Limits f
 limits-from f e =
     let both = and-parts (in-limits (f .delay)) (in-limits (f .width)) e in
     let d = and-parts (leb 1 (f .delay)) (leb (f .delay) 1000000) (both .0) in

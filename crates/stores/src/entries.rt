@@ -2,12 +2,29 @@
 ghost use mathlib.Core.Path.{_≡_};
 ghost use mathlib.Core.List.{[]};
 ghost use Rattle.network.specs.Books.{relation-of, entered as entered-link};
-ghost use Rattle.network.specs.Causes.{first-cause, figures-causes};
+ghost use Rattle.network.specs.Causes.{first-cause, pair-causes, figures-causes};
 ghost use Rattle.stores.specs.Refusals.{judged, relation-causes};
+use network::stores::Store;
 use network::types::EditRefusal;
 use network::types::Figures;
 use network::types::Link;
 use network::types::Relation;
+
+// Whether both ASes are in the store's roster and they are not the same.
+pub(crate) fn check_pair<S: Store>(store: &S, first: u32, second: u32) -> Result<(), EditRefusal>
+    ensures { λ r. ⌜ r ≡ judged (first-cause (pair-causes (S·Store .roster (now (store .entry))) first second [])) tt ⌝ }
+{
+    let Some(_) = store.place_of(first) else {
+        return Err(EditRefusal::UnknownFirst);
+    };
+    let Some(_) = store.place_of(second) else {
+        return Err(EditRefusal::UnknownSecond);
+    };
+    if first == second {
+        return Err(EditRefusal::SameAs);
+    }
+    Ok(())
+}
 
 // The relation that a number stands for.
 pub(crate) fn relation_named(relation: u32) -> Result<Relation, EditRefusal>

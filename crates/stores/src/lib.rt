@@ -2,3 +2,4 @@
 mod entries;
 pub mod grid;
 mod rosters;
+pub mod rows;

@@ -1,8 +1,7 @@
-use mathlib.Core.Path.{_≡_, refl, sym, ap, _∙_}
+use mathlib.Core.Path.{_≡_, sym, ap, _∙_}
 use mathlib.Core.List.{_∷_, [], _++_}
-use Prim.Native.Nat.{_+_, _<_, _≤_}
+use Prim.Native.Nat.{_+_, _<_}
 use native.Mathlib.Omega.{arith}
-use native.Mathlib.Numerals.{add-one}
 use lib.ListN.{length, take, drop, replicate}
 use Rattle.std.proofs.shelf.Lists.{take-more-set, drop-set-lt, drop-drop, replicate-more, take-append-drop}
 use Rattle.board.proofs.edits.clear.Needs as need

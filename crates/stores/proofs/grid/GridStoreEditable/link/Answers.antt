@@ -15,14 +15,6 @@ use Rattle.stores.proofs.Refusals.{judged-ok, stopped}
 use Rattle.stores.proofs.Edits.{spot, link-standing, link-full, link-fits, link-made}
 use Rattle.stores.proofs.grid.GridStoreEditable.link.Needs as need
 
-pub returns : need.returns
-returns c =
-    let s = c .args .self .now in
-    let here = spot s (c .args .first) (c .args .second) (c .in-Continue-cell .cell) (c .in-Continue-cell .ensures tt .answer) in
-    link-made s (c .args .first) (c .args .second) (c .in-Continue-cell .cell) here (c .args .figures) (c .in-Continue-check-figures .field-0) (c .in-Continue-check-figures .ensures tt) (c .args .relation) (c .in-Continue-relation .relation) (c .in-Continue-relation .ensures tt)
-    (sym (c .if-is-some .ensures tt)) (grid-roster (c .put .last .self)) (c .put .last .self .cells) (λ e. c .if-link-count-eq-MOST-LINKS .left (c .link-count .ensures ∙ e)) (c .put .ensures .roster)
-    (c .put .ensures .cells ∙ ap (λ l. set (s .cells) (c .in-Continue-cell .cell) (Some l)) (c .entered .ensures))
-
 pub returns-in-Break-cell : need.returns-in-Break-cell
 returns-in-Break-cell c =
     let s = c .args .self .now in
@@ -61,3 +53,11 @@ put-requires c κs =
     let here = spot s (c .args .first) (c .args .second) (c .in-Continue-cell .cell) (c .in-Continue-cell .ensures tt .answer) in
     let fits = link-fits s (c .args .first) (c .args .second) (c .in-Continue-cell .cell) here (c .args .figures) (c .in-Continue-check-figures .field-0) (c .in-Continue-check-figures .ensures tt) (c .args .relation) (c .in-Continue-relation .relation) (c .in-Continue-relation .ensures tt) in
     (c .in-Continue-cell .ensures tt .within, subst (λ l. fit (grid-roster s) (c .in-Continue-cell .cell) (Some l ∷ []) ≡ true) (sym (c .entered .ensures)) fits)
+
+pub returns : need.returns
+returns c =
+    let s = c .args .self .now in
+    let here = spot s (c .args .first) (c .args .second) (c .in-Continue-cell .cell) (c .in-Continue-cell .ensures tt .answer) in
+    link-made s (c .args .first) (c .args .second) (c .in-Continue-cell .cell) here (c .args .figures) (c .in-Continue-check-figures .field-0) (c .in-Continue-check-figures .ensures tt) (c .args .relation) (c .in-Continue-relation .relation) (c .in-Continue-relation .ensures tt)
+    (sym (c .if-is-some .ensures tt)) (grid-roster (c .put .last .self)) (c .put .last .self .cells) (λ e. c .if-link-count-eq-MOST-LINKS .left (c .link-count .ensures ∙ e)) (c .put .ensures .roster)
+    (c .put .ensures .cells ∙ ap (λ l. set (s .cells) (c .in-Continue-cell .cell) (Some l)) (c .entered .ensures))

@@ -11,13 +11,6 @@ use Rattle.stores.proofs.Refusals.{stopped}
 use Rattle.stores.proofs.Edits.{spot, recost-missing, recost-fits, recost-made}
 use Rattle.stores.proofs.grid.GridStoreEditable.recost.Needs as need
 
-pub returns : need.returns
-returns c =
-    let s = c .args .self .now in
-    let here = spot s (c .args .first) (c .args .second) (c .in-Continue-cell .cell) (c .in-Continue-cell .ensures tt .answer) in
-    recost-made s (c .args .first) (c .args .second) (c .in-Continue-cell .cell) here (c .args .figures) (c .in-Continue-check-figures .field-0) (c .in-Continue-check-figures .ensures tt) (grid-roster (c .put .last .self)) (c .put .last .self .cells) (c .in-Some .link) (c .in-Some .is)
-    (c .put .ensures .roster) (c .put .ensures .cells)
-
 pub returns-in-Break-cell : need.returns-in-Break-cell
 returns-in-Break-cell c =
     let s = c .args .self .now in
@@ -36,3 +29,10 @@ put-requires c κs =
     let s = c .args .self .now in
     let here = spot s (c .args .first) (c .args .second) (c .in-Continue-cell .cell) (c .in-Continue-cell .ensures tt .answer) in
     (c .in-Continue-cell .ensures tt .within, recost-fits s (c .args .first) (c .args .second) (c .in-Continue-cell .cell) here (c .args .figures) (c .in-Continue-check-figures .field-0) (c .in-Continue-check-figures .ensures tt) (c .in-Some .link) (c .in-Some .is))
+
+pub returns : need.returns
+returns c =
+    let s = c .args .self .now in
+    let here = spot s (c .args .first) (c .args .second) (c .in-Continue-cell .cell) (c .in-Continue-cell .ensures tt .answer) in
+    recost-made s (c .args .first) (c .args .second) (c .in-Continue-cell .cell) here (c .args .figures) (c .in-Continue-check-figures .field-0) (c .in-Continue-check-figures .ensures tt) (grid-roster (c .put .last .self)) (c .put .last .self .cells) (c .in-Some .link) (c .in-Some .is)
+    (c .put .ensures .roster) (c .put .ensures .cells)

@@ -5,12 +5,6 @@ use Rattle.std.specs.declared.option.Option.the-variants.{None}
 use Rattle.stores.proofs.Pairs.{places-within, link-of-cell, link-of-unknown}
 use Rattle.stores.proofs.grid.GridStoreStore.link_of.Needs as need
 
-pub returns : need.returns
-returns c =
-    ap (λ k. getD (c .args .self .now .cells) k None) (c .cell-index .ensures .0) ∙
-    sym (link-of-cell (c .args .self .now) (c .args .first) (c .args .second) (c .in-Continue-first .first) (c .in-Continue-second .second)
-    (sym (c .in-Continue-first .ensures tt)) (sym (c .in-Continue-second .ensures tt)))
-
 pub returns-in-Break-first : need.returns-in-Break-first
 returns-in-Break-first c =
     c .from-residual .ensures ∙ sym (link-of-unknown (c .args .self .now) (c .args .first) (c .args .second) (inl (sym (c .in-Break-first .ensures tt))))
@@ -24,3 +18,9 @@ pub cell-index-requires : need.cell-index-requires
 cell-index-requires c κs =
     places-within (c .args .self .now) (c .args .first) (c .args .second) (c .in-Continue-first .first) (c .in-Continue-second .second)
     (sym (c .in-Continue-first .ensures tt)) (sym (c .in-Continue-second .ensures tt))
+
+pub returns : need.returns
+returns c =
+    ap (λ k. getD (c .args .self .now .cells) k None) (c .cell-index .ensures .0) ∙
+    sym (link-of-cell (c .args .self .now) (c .args .first) (c .args .second) (c .in-Continue-first .first) (c .in-Continue-second .second)
+    (sym (c .in-Continue-first .ensures tt)) (sym (c .in-Continue-second .ensures tt)))

@@ -23,8 +23,9 @@ loop-i-again c =
     let i = c .loop-i .i in
     let inv = c .loop-i .inv in
     let few : length roster ≤ 24 = subst (λ xs. length xs ≤ 24) (sym (c .roster-of-roster .ensures)) (from-few 24 (c .args .ases .now)) in
+    let long = length-set numbers i (getD roster i 0) in
     let there : i < length numbers = omega arith in
-    (simp length-set (omega arith), take-more-set numbers i (getD roster i 0) there ∙ ap (λ ys. ys ++ getD roster i 0 ∷ []) (inv .1) ∙ sym (take-more roster i 0 (c .loop-i-test .taken)))
+    (omega arith, take-more-set numbers i (getD roster i 0) there ∙ ap (λ ys. ys ++ getD roster i 0 ∷ []) (inv .1) ∙ sym (take-more roster i 0 (c .loop-i-test .taken)))
 
 pub ghost-result : need.ghost-result
 ghost-result c =

@@ -1,0 +1,5 @@
+mod Stood
+pub mod Filled
+mod Reached
+mod Played
+mod Ran

@@ -1,0 +1,63 @@
+use mathlib.Core.Path.{_≡_, refl, _∙_}
+use mathlib.Core.Bool.{false}
+use mathlib.Core.List.{[]}
+use Prim.Native.Nat.{_+_}
+use lib.ListN.{length}
+use Rattle.std.specs.declared.option.Option.the-variants.{Some}
+use Rattle.std.proofs.shelf.Results.{err-from-errBy}
+use Rattle.table.specs.Memory.{small}
+use Rattle.runs.specs.Plain.{Board, board-of, fresh}
+use Rattle.runs.specs.Runs.{Ran}
+use Rattle.runs.proofs.Ran.{ran-none, made-more, broke-off, made-all}
+use Rattle.runs.proofs.replay.replay.Given as given
+use Rattle.runs.proofs.replay.replay.Needs as need
+use Rattle.runs.proofs.replay.replay.Needs.{After-new-replies}
+
+-- the board before it is opened
+abbrev before : (g : given.Over) (c : After-new-replies g) → Board (g .M·Cost .Denot)
+before g c = let s = c .args .store .now in board-of (g .S·Store .roster s) (g .S·Store .book s) (Some (g .S·EditableStore .limit s)) (c .args .table .now)
+
+-- its memory is large enough, and no call was made yet
+opened : (g : given.Over) (c : After-new-replies g) →
+    let b = before g c in
+    (small (length (b .roster)) (b .entries) (b .marks) ≡ false) × Ran (g .M·Measure .measure) (fresh b) (board-of (b .roster) (b .book) (b .limit) (c .open .last .table)) [] []
+opened g c = let t = c .open .last .table in ran-none (g .M·Measure .measure) (before g c) (t .entries .now) (t .marks .now) (c .in-Continue-open .ensures tt .opens)
+
+pub loop-call-holds : need.loop-call-holds
+loop-call-holds g c = (refl, refl, simp (c .new-replies .ensures .items) (opened g c .1))
+
+pub returns-in-Break-reply : need.returns-in-Break-reply
+returns-in-Break-reply g c =
+    let o = c .in-Continue-open .ensures tt .named in
+    let i = c .loop-call .inv in
+    let q = c .in-Break-reply .ensures tt in
+    let start = need.at·returns-in-Break-reply g c .After-new-replies in
+    record {
+      named = (q .named .0 ∙ i .0 ∙ o .0, q .named .1 ∙ i .1 ∙ o .1);
+      replays = broke-off (g .M·Measure .measure) (c .args .calls .now) (before g start) (c .loop-call .call-index) (opened g start .0) (i .2) (q .plays .1) (err-from-errBy (c .from-residual-in-Break-reply .result) (c .from-residual-in-Break-reply .ensures .1));
+    }
+
+pub returns-in-Break-push : need.returns-in-Break-push
+returns-in-Break-push g c =
+    let m = g .M·Measure .measure in
+    let o = c .in-Continue-open .ensures tt .named in
+    let i = c .loop-call .inv in
+    let q = c .in-Continue-reply .ensures tt in
+    let start = need.at·returns-in-Break-push g c .After-new-replies in
+    record {
+      named = (q .named .0 ∙ i .0 ∙ o .0, q .named .1 ∙ i .1 ∙ o .1);
+      replays = broke-off m (c .args .calls .now) (before g start) (c .loop-call .call-index + 1) (opened g start .0) (made-more m (c .args .calls .now) _ (c .loop-call-test .taken) (i .2) (q .plays)) refl (err-from-errBy (c .from-residual-in-Break-push .result) (c .from-residual-in-Break-push .ensures .1));
+    }
+
+pub loop-call-again : need.loop-call-again
+loop-call-again g c =
+    let i = c .loop-call .inv in
+    let q = c .in-Continue-reply .ensures tt in
+    (q .named .0 ∙ i .0, q .named .1 ∙ i .1, simp (c .in-Continue-push .ensures tt .items) (made-more (g .M·Measure .measure) (c .args .calls .now) _ (c .loop-call-test .taken) (i .2) (q .plays)))
+
+pub returns : need.returns
+returns g c =
+    let o = c .in-Continue-open .ensures tt .named in
+    let i = c .loop-call .inv in
+    let start = need.at·returns g c .After-new-replies in
+    record { named = (i .0 ∙ o .0, i .1 ∙ o .1); replays = made-all (g .M·Measure .measure) (c .args .calls .now) (before g start) (c .loop-call .replies) (opened g start .0) (c .loop-call-test .left) (i .2) }
