@@ -1,3 +1,4 @@
 pub mod Measures
 pub mod Delay
 pub mod HopsWidth
+pub mod WidthFirst

@@ -1,5 +1,6 @@
 // Fewer links first, then the greater width, which is that of the narrowest link.
 ghost use Rattle.measure.specs.HopsWidth.{hops-width};
+ghost use Rattle.measure.specs.WidthFirst.{Width-first-fails};
 use crate::Measure;
 use network::types::Figures;
 
@@ -37,4 +38,12 @@ pub impl Measure for HopsWidth as HopsWidthMeasure {
     fn in_range(cost: HopsWidthCost) -> bool {
         cost.hops <= 1024 && 1 <= cost.width && cost.width <= 1_000_000
     }
+}
+
+// The other order, width first and then hops, keeps not all of the laws: width 10 with 5 hops beats width 5 with 1, but behind a link of
+// width 3 it loses.
+pub fn width_first_fails() -> u8
+    ensures { λ _. ⌜ Width-first-fails ⌝ }
+{
+    0
 }

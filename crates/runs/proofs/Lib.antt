@@ -3,3 +3,4 @@ pub mod Filled
 mod Reached
 mod Played
 mod Ran
+mod Unique

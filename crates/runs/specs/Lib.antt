@@ -1,3 +1,4 @@
 pub mod Plain
 pub mod Runs
 pub mod Work
+pub mod Theorems

@@ -19,7 +19,7 @@ use Rattle.network.specs.Rosters.{climbs}
 use Rattle.network.specs.Limits.{in-limits, Limits}
 use Rattle.network.specs.Books.{before, find, added, joins, recosted, without, with-figures}
 use Rattle.network.specs.Sound.{Proper, In-order}
-use Rattle.network.proofs.Rosters.{among-getD, climbs-rises}
+use Rattle.network.proofs.Rising.{stands-among, rising as rises}
 use Rattle.network.proofs.Books.{Earlier, earlier-before, earlier-not-before, Apart, joined, apart-earlier, apart-later, added-between, find-past, find-none, find-here, recosted-here, without-here}
 use Rattle.stores.specs.Cells.{filled, fits-cell, fit}
 
@@ -79,14 +79,14 @@ module _ (roster : List ℕ) (rising : climbs 0 roster ≡ true) where
   earlier k n low high low′ high′ h p q =
       ⊎-elim
       (λ (r : k / 24 < n / 24).
-      let up = climbs-rises 0 roster (k / 24) (n / 24) rising r (q .row) in
+      let up = rises 0 roster rising (k / 24) (n / 24) r (q .row) in
       let lows = p .low-is in
       let lows′ = q .low-is in
       inl (omega arith))
       (λ (r : n / 24 ≤ k / 24).
       let same : k / 24 ≡ n / 24 = omega arith in
       let right : k % 24 < n % 24 = omega arith in
-      let up = climbs-rises 0 roster (k % 24) (n % 24) rising right (q .column) in
+      let up = rises 0 roster rising (k % 24) (n % 24) right (q .column) in
       let highs = p .high-is in
       let highs′ = q .high-is in
       inr (p .low-is ∙ ap (λ i. getD roster i 0) same ∙ sym (q .low-is), omega arith))
@@ -129,13 +129,13 @@ module _ (roster : List ℕ) (rising : climbs 0 roster ≡ true) where
       proper : Placed roster k l → Proper roster l
       proper p =
           let q = p .pair in
-          let up = climbs-rises 0 roster (k / 24) (k % 24) rising (p .ordered) (q .column) in
+          let up = rises 0 roster rising (k / 24) (k % 24) (p .ordered) (q .column) in
           let lows = q .low-is in
           let highs = q .high-is in
           record {
             ordered = omega arith;
-            low-known = rw (q .low-is) (among-getD roster (k / 24) (q .row));
-            high-known = rw (q .high-is) (among-getD roster (k % 24) (q .column));
+            low-known = rw (q .low-is) (stands-among roster (k / 24) (q .row));
+            high-known = rw (q .high-is) (stands-among roster (k % 24) (q .column));
             limits = p .limits;
           }
 

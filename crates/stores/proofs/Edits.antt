@@ -22,7 +22,7 @@ use Rattle.network.specs.Books.{link-of, added, recosted, without, entered, wit
 use Rattle.network.specs.Causes.{first-cause, pair-causes, figures-causes, link-causes, recost-causes, unlink-causes}
 use Rattle.network.specs.Edits.{Links, Recosts, Unlinks}
 use Rattle.network.proofs.Options.{none-from}
-use Rattle.network.proofs.Rosters.{place-some}
+use Rattle.network.proofs.Rising.{place-stands}
 use Rattle.network.proofs.Causes.{pair-known, figures-known, edit-refused, edit-accepted}
 use Rattle.stores.specs.declared.grid.cells.GridStore.{GridStore}
 use Rattle.stores.specs.Cells.{filled, fits-cell, fit, cell-at, cell-of}
@@ -56,7 +56,7 @@ spot s a b n e =
         let w = places-within s a b i j p q in
         let c = cell-within s a b i j p q in
         let n = s .sized in
-        let other : i ≢ j = λ e. apart (sym (place-some (grid-roster s) a i p .here) ∙ ap (λ k. getD (grid-roster s) k 0) e ∙ place-some (grid-roster s) b j q .here) in
+        let other : i ≢ j = λ e. apart (sym (place-stands (grid-roster s) a i p .is) ∙ ap (λ k. getD (grid-roster s) k 0) e ∙ place-stands (grid-roster s) b j q .is) in
         record { passed = none; within = omega arith; ordered = omega arith; pair = pair-cell s a b i j p q; held = link-of-cell s a b i j p q }
 
 module _ (s : GridStore) (a b n : ℕ) (here : Spot s a b n) where

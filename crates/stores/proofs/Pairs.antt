@@ -9,7 +9,8 @@ use Rattle.std.proofs.shelf.Lists.{length-take}
 use Rattle.std.proofs.shelf.Tests.{cases-lt}
 use Rattle.network.specs.Rosters.{Among, place}
 use Rattle.network.specs.Books.{link-of}
-use Rattle.network.proofs.Rosters.{place-some, place-none, places-ordered}
+use Rattle.network.proofs.Rising.{place-stands}
+use Rattle.network.proofs.Rosters.{place-none, places-ordered}
 use Rattle.network.proofs.Books.{find-unknown}
 use Rattle.stores.specs.declared.grid.cells.GridStore.{GridStore}
 use Rattle.stores.specs.Grid.{grid-roster, grid-book}
@@ -47,8 +48,8 @@ module _ (s : GridStore) where
     pub places-within : (i < 24) × (j < 24)
     places-within =
         let n = few in
-        let hi = place-some (grid-roster s) a i p .within in
-        let hj = place-some (grid-roster s) b j q .within in
+        let hi = place-stands (grid-roster s) a i p .within in
+        let hj = place-stands (grid-roster s) b j q .within in
         (omega arith, omega arith)
 
     pub cell-within : cell i j < 576
@@ -56,8 +57,8 @@ module _ (s : GridStore) where
 
     pub pair-cell : Pair (grid-roster s) (cell i j) (min a b) (max a b)
     pair-cell =
-        let x = place-some (grid-roster s) a i p in
-        let y = place-some (grid-roster s) b j q in
+        let x = place-stands (grid-roster s) a i p in
+        let y = place-stands (grid-roster s) b j q in
         let hi = x .within in
         let hj = y .within in
         let n = few in
@@ -67,8 +68,8 @@ module _ (s : GridStore) where
         record {
           row = omega arith;
           column = omega arith;
-          low-is = ap (λ z. min z b) (sym (x .here)) ∙ ap (min (getD (grid-roster s) i 0)) (sym (y .here)) ∙ o .0 ∙ ap (λ k. getD (grid-roster s) k 0) (sym row);
-          high-is = ap (λ z. max z b) (sym (x .here)) ∙ ap (max (getD (grid-roster s) i 0)) (sym (y .here)) ∙ o .1 ∙ ap (λ k. getD (grid-roster s) k 0) (sym column);
+          low-is = ap (λ z. min z b) (sym (x .is)) ∙ ap (min (getD (grid-roster s) i 0)) (sym (y .is)) ∙ o .0 ∙ ap (λ k. getD (grid-roster s) k 0) (sym row);
+          high-is = ap (λ z. max z b) (sym (x .is)) ∙ ap (max (getD (grid-roster s) i 0)) (sym (y .is)) ∙ o .1 ∙ ap (λ k. getD (grid-roster s) k 0) (sym column);
         }
 
     pub link-of-cell : link-of (grid-book s) a b ≡ getD (s .cells) (cell i j) None

@@ -23,7 +23,7 @@ use Rattle.network.specs.Limits.{in-limits}
 use Rattle.network.specs.Books.{joins, find, before, added, recosted, without, with-figures}
 use Rattle.network.specs.Sound.{Proper, In-order}
 use Rattle.network.proofs.Options.{some-from}
-use Rattle.network.proofs.Rosters.{among-getD, place-some}
+use Rattle.network.proofs.Rising.{stands-among, place-stands}
 use Rattle.network.proofs.Books.{Earlier, earlier-before, earlier-not-before, Apart, apart-earlier, apart-later, added-between, find-none, find-here, recosted-here, without-here}
 use Rattle.stores.specs.Ranks.{is-proper, before-all, is-book, one-on, less, row-of}
 use Rattle.stores.proofs.Cells.{limits-from}
@@ -31,8 +31,8 @@ use Rattle.stores.proofs.Cells.{limits-from}
 known-among : (roster : List ℕ) (a : ℕ) → isSome (place roster a) ≡ true → Among a roster
 known-among roster a e =
     let i = some-from (place roster a) e in
-    let there = place-some roster a (i .0) (i .1) in
-    subst (λ x. Among x roster) (there .here) (among-getD roster (i .0) (there .within))
+    let there = place-stands roster a (i .0) (i .1) in
+    subst (λ x. Among x roster) (there .is) (stands-among roster (i .0) (there .within))
 
 module _ (roster : List ℕ) where
   proper : (l : Link) → is-proper roster l ≡ true → Proper roster l

@@ -55,7 +55,7 @@ fn first<M: Measure>(slots: &[Slot<M::Cost>], used: usize) -> usize
     best
 }
 
-pub fn put_into<C: Copy>(
+pub(super) fn put_into<C: Copy>(
     slots: &mut [Slot<C>],
     used: &mut usize,
     place: u32,
@@ -80,7 +80,7 @@ pub fn put_into<C: Copy>(
     Ok(())
 }
 
-pub fn lower_in<M: Measure>(
+pub(super) fn lower_in<M: Measure>(
     slots: &mut [Slot<M::Cost>],
     used: usize,
     place: u32,
@@ -103,7 +103,10 @@ pub fn lower_in<M: Measure>(
     Ok(())
 }
 
-pub fn take_from<M: Measure>(slots: &mut [Slot<M::Cost>], used: &mut usize) -> Option<Slot<M::Cost>>
+pub(super) fn take_from<M: Measure>(
+    slots: &mut [Slot<M::Cost>],
+    used: &mut usize,
+) -> Option<Slot<M::Cost>>
     requires fits { ⌜ now used ≤ length (now slots) ⌝ }
     requires apart { ⌜ Apart (now used) (now slots) ⌝ }
     ensures after { λ r. ⌜ Take (measure .less) (held-in (now (used .entry)) (now (slots .entry))) (held-in (now (used .exit)) (now (slots .exit))) (room-in (now (used .entry)) (now (slots .entry))) (room-in (now (used .exit)) (now (slots .exit))) (now (slots .entry)) (now (slots .exit)) r ⌝ }

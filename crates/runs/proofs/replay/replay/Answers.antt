@@ -11,27 +11,27 @@ use Rattle.runs.specs.Runs.{Ran}
 use Rattle.runs.proofs.Ran.{ran-none, made-more, broke-off, made-all}
 use Rattle.runs.proofs.replay.replay.Given as given
 use Rattle.runs.proofs.replay.replay.Needs as need
-use Rattle.runs.proofs.replay.replay.Needs.{After-new-replies}
+use Rattle.runs.proofs.replay.replay.Needs.{In-Continue-open}
 
 -- the board before it is opened
-abbrev before : (g : given.Over) (c : After-new-replies g) → Board (g .M·Cost .Denot)
+abbrev before : (g : given.Over) (c : In-Continue-open g) → Board (g .M·Cost .Denot)
 before g c = let s = c .args .store .now in board-of (g .S·Store .roster s) (g .S·Store .book s) (Some (g .S·EditableStore .limit s)) (c .args .table .now)
 
 -- its memory is large enough, and no call was made yet
-opened : (g : given.Over) (c : After-new-replies g) →
+opened : (g : given.Over) (c : In-Continue-open g) →
     let b = before g c in
     (small (length (b .roster)) (b .entries) (b .marks) ≡ false) × Ran (g .M·Measure .measure) (fresh b) (board-of (b .roster) (b .book) (b .limit) (c .open .last .table)) [] []
 opened g c = let t = c .open .last .table in ran-none (g .M·Measure .measure) (before g c) (t .entries .now) (t .marks .now) (c .in-Continue-open .ensures tt .opens)
 
 pub loop-call-holds : need.loop-call-holds
-loop-call-holds g c = (refl, refl, simp (c .new-replies .ensures .items) (opened g c .1))
+loop-call-holds g c = (refl, refl, simp (c .new-replies .ensures .items) (opened g (need.at·loop-call-holds g c .In-Continue-open) .1))
 
 pub returns-in-Break-reply : need.returns-in-Break-reply
 returns-in-Break-reply g c =
     let o = c .in-Continue-open .ensures tt .named in
     let i = c .loop-call .inv in
     let q = c .in-Break-reply .ensures tt in
-    let start = need.at·returns-in-Break-reply g c .After-new-replies in
+    let start = need.at·returns-in-Break-reply g c .In-Continue-open in
     record {
       named = (q .named .0 ∙ i .0 ∙ o .0, q .named .1 ∙ i .1 ∙ o .1);
       replays = broke-off (g .M·Measure .measure) (c .args .calls .now) (before g start) (c .loop-call .call-index) (opened g start .0) (i .2) (q .plays .1) (err-from-errBy (c .from-residual-in-Break-reply .result) (c .from-residual-in-Break-reply .ensures .1));
@@ -43,7 +43,7 @@ returns-in-Break-push g c =
     let o = c .in-Continue-open .ensures tt .named in
     let i = c .loop-call .inv in
     let q = c .in-Continue-reply .ensures tt in
-    let start = need.at·returns-in-Break-push g c .After-new-replies in
+    let start = need.at·returns-in-Break-push g c .In-Continue-open in
     record {
       named = (q .named .0 ∙ i .0 ∙ o .0, q .named .1 ∙ i .1 ∙ o .1);
       replays = broke-off m (c .args .calls .now) (before g start) (c .loop-call .call-index + 1) (opened g start .0) (made-more m (c .args .calls .now) _ (c .loop-call-test .taken) (i .2) (q .plays)) refl (err-from-errBy (c .from-residual-in-Break-push .result) (c .from-residual-in-Break-push .ensures .1));
@@ -59,5 +59,5 @@ pub returns : need.returns
 returns g c =
     let o = c .in-Continue-open .ensures tt .named in
     let i = c .loop-call .inv in
-    let start = need.at·returns g c .After-new-replies in
+    let start = need.at·returns g c .In-Continue-open in
     record { named = (i .0 ∙ o .0, i .1 ∙ o .1); replays = made-all (g .M·Measure .measure) (c .args .calls .now) (before g start) (c .loop-call .replies) (opened g start .0) (c .loop-call-test .left) (i .2) }

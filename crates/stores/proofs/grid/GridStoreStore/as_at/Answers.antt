@@ -4,7 +4,8 @@ use Prim.Native.Nat.{_<_, _≤_}
 use lib.ListN.{length, take}
 use Rattle.std.specs.declared.option.Option.the-variants.{Some}
 use Rattle.std.proofs.shelf.Lists.{getD-take, length-take}
-use Rattle.network.proofs.Rosters.{at-within, at-past}
+use Rattle.network.proofs.Rising.{at-known}
+use Rattle.network.proofs.Rosters.{at-past}
 use Rattle.stores.proofs.grid.GridStoreStore.as_at.Needs as need
 
 pub returns-then-spot-self : need.returns-then-spot-self
@@ -13,7 +14,7 @@ returns-then-spot-self c =
     let i = c .args .spot in
     let n = length-take (s .count) (s .ases) in
     let within : i < length (take (s .count) (s .ases)) = omega arith in
-    sym (at-within (take (s .count) (s .ases)) i 0 within ∙ ap Some (getD-take (s .count) (s .ases) i 0 (omega arith)))
+    sym (at-known (take (s .count) (s .ases)) i 0 within ∙ ap Some (getD-take (s .count) (s .ases) i 0 (omega arith)))
 
 pub returns : need.returns
 returns c =
