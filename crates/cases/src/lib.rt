@@ -1,4 +1,6 @@
 // A file of cases for a program: each is a heading, `@ LENGTH NAME`, then LENGTH bytes and a line feed.
+#![tactic(auto)]
+
 ghost use Rattle.std.specs.Prelude.{◌≡◌, ◌<◌, ◌≤◌, length, MatchOption};
 
 // One case of the file.

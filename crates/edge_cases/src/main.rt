@@ -1,5 +1,7 @@
 // The board at its edges: one AS, no ASes, memory that is one place too small, and memory that is larger than it need be.
 // What is printed was worked by hand.
+#![tactic(auto)]
+
 use board::edits::{link, open};
 use link_list::load::load;
 use measure::delay::Delay;

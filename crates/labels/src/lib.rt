@@ -1,5 +1,7 @@
 // How the cheapest legal paths to an AS are found, over plain functions: the cheapest entry that waits is taken, and its AS makes its offers
 // to its neighbours, until nothing waits. The crate has the invariants and the proofs that each step keeps them, and no code of its own.
+#![tactic(auto)]
+
 ghost use Rattle.labels.specs.Theorems.{LabelsStart, LabelsEnd};
 
 use measure::Measure;

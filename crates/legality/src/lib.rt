@@ -1,4 +1,6 @@
 // Legal paths, and the tables of the cheapest of them. A function for the step rule, and one for each theorem.
+#![tactic(auto)]
+
 ghost use Rattle.std.specs.Prelude.{◌≡◌};
 ghost use Rattle.legality.specs.Classes.{allowed};
 ghost use Rattle.legality.specs.Theorems.{StoresSound, LocalIsGlobal, OneTable, WalksArrive, ServedEverywhere};

@@ -1,4 +1,6 @@
 // The route lister: a link list on standard input, its per-pair table on standard output.
+#![tactic(auto)]
+
 ghost use Rattle.std.specs.Prelude.{◌≤◌, length, IfOk};
 
 use anyhow::anyhow;

@@ -1,4 +1,6 @@
 // Many link lists at once, for the lister's library functions: what is printed is each case's name and what the lister prints of it.
+#![tactic(auto)]
+
 use cases::{Case, CaseFile};
 use listing::{list_routes, print_listing};
 use std::io::{Read, Write};

@@ -1,4 +1,6 @@
 // The route lister's work: from the bytes of a link list to what is printed.
+#![tactic(auto)]
+
 ghost use Rattle.std.specs.Prelude.{◌≡◌, ◌≤◌, true, length, IfOk, string_bytes};
 ghost use Rattle.network.specs.Rosters.{climbs};
 ghost use Rattle.listing.specs.Listings.{Tables, Lists};

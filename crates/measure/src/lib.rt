@@ -1,4 +1,6 @@
 // What a path can be measured by: its cost, and the laws that every measure keeps.
+#![tactic(auto)]
+
 ghost use Rattle.std.specs.Prelude.{◌≡◌};
 ghost use Rattle.network.specs.Limits.{Limits};
 ghost use Rattle.measure.specs.Measures.{Measure as MeasureT, Laws, Within};

@@ -34,7 +34,7 @@ pub fn other_end(link: Link, number: u32) -> Option<(u32, Relation)>
 
 // What `a` is to `b`, and the figures of their link.
 pub fn step<S: Store>(store: &S, a: u32, b: u32) -> Option<(Relation, Figures)>
-    ensures { result ≡ step_of (book store.now) a b }
+    ensures { result ≡ step_of (S.book store.now) a b }
 {
     let link = store.link_of(a, b)?;
     if link.low == a {

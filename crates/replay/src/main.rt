@@ -1,4 +1,6 @@
 // Runs a script of calls: the script on standard input, each call with its answer on standard output.
+#![tactic(auto)]
+
 use anyhow::anyhow;
 use scripts::answers::page_of;
 use scripts::parse::parse_script;

@@ -1,4 +1,6 @@
 // What the table memory answers about routes. It may hold anything: each answer is pinned for spoiled memory too.
+#![tactic(auto)]
+
 ghost use Rattle.std.specs.Prelude.{◌≡◌, length};
 ghost use Rattle.legality.specs.Networks.{net_of};
 ghost use Rattle.routes.specs.Theorems.{HopsRight, SendsRight, SendsFew};

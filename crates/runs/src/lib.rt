@@ -1,4 +1,6 @@
 // Runs of calls on a board: each call is answered as the plain board wants, and so is every list of calls.
+#![tactic(auto)]
+
 ghost use Rattle.runs.specs.Theorems.{OneAnswer};
 
 mod calls;

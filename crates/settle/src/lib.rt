@@ -1,4 +1,6 @@
 // The cheapest legal paths to one AS, taken in the order of their costs.
+#![tactic(auto)]
+
 ghost use Rattle.std.specs.Prelude.{◌≡◌, ◌+◌, ◌*◌, ◌<◌, ◌≤◌};
 ghost use Rattle.settle.specs.Memory.{memory_of, Lent};
 ghost use Rattle.settle.specs.Settled.{Settles};

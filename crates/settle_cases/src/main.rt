@@ -1,4 +1,6 @@
 // Settled tables of many link lists at both measures: for each destination settle's answer, and each entry of its column.
+#![tactic(auto)]
+
 use cases::{Case, CaseFile};
 use link_list::load::load;
 use link_text::reader::Reader;

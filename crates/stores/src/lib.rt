@@ -1,4 +1,6 @@
 // Stores of links.
+#![tactic(auto)]
+
 mod entries;
 pub mod grid;
 mod rosters;

@@ -1,4 +1,6 @@
 // The table memory. For n ASes it has 2 · n entries to each destination, one for each AS and class, and a mark for each destination.
+#![tactic(auto)]
+
 ghost use Rattle.std.specs.Prelude.{◌≡◌};
 ghost use Rattle.table.specs.Columns.{number};
 

@@ -1,4 +1,6 @@
 // A waiting list over lent memory, for any measure of cost.
+#![tactic(auto)]
+
 pub mod list;
 pub mod types;
 

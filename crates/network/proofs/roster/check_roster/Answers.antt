@@ -21,7 +21,7 @@ returns-then-number-last c =
     let step = at_drop_more (climbs c.loop-number.last) xs i 0 c.loop-number-test.true in
     let stops = and_left (ltb c.loop-number.last x) (climbs x (drop (i + 1) xs)) (le-ltb c.loop-number.last x c.if-number-last.true) in
     let no_climb : climbs 0 xs ≡ false = sym c.loop-number.invariant ∙ (step ∙ stops) in
-    let long = filled (length xs) (eqb-false (length xs) 0 (sym c.if-is-empty.ensures)) in
+    let long = filled (length xs) (eqb-false (length xs) 0 (sym c.if-is_empty.ensures)) in
     sym (ap (λ b. cond b (Ok tt) (Err NotARoster)) (enough c.args.most xs false long c.if-numbers-most.false no_climb))
 
 pub loop-number-preserved : goal.loop-number-preserved
@@ -38,5 +38,5 @@ returns c =
     let xs = c.args.numbers.now in
     let all = at_drop_all (climbs c.loop-number.last) xs c.loop-number.number-index c.loop-number-test.false in
     let climb : climbs 0 xs ≡ true = sym c.loop-number.invariant ∙ all in
-    let long = filled (length xs) (eqb-false (length xs) 0 (sym c.if-is-empty.ensures)) in
+    let long = filled (length xs) (eqb-false (length xs) 0 (sym c.if-is_empty.ensures)) in
     sym (ap (λ b. cond b (Ok tt) (Err NotARoster)) (enough c.args.most xs true long c.if-numbers-most.false climb))
