@@ -32,21 +32,21 @@ pub fn stores_sound() -> u8
 
 // A table has the cheapest legal paths exactly when each entry is the best offer of its neighbours' entries.
 pub fn local_is_global<M: Measure>() -> u8
-    ensures { LocalIsGlobal measure }
+    ensures { LocalIsGlobal M.measure }
 {
     0
 }
 
 // There is one table of the cheapest legal paths to an AS.
 pub fn one_table<M: Measure>() -> u8
-    ensures { OneTable measure }
+    ensures { OneTable M.measure }
 {
     0
 }
 
 // Who goes by a table of the cheapest legal paths comes to its AS, on a cheapest legal path.
 pub fn walks_arrive<M: Measure>() -> u8
-    ensures { WalksArrive measure }
+    ensures { WalksArrive M.measure }
 {
     0
 }

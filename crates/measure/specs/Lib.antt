@@ -3,3 +3,4 @@ pub mod Delay
 pub mod HopsWidth
 pub mod WidthFirst
 pub mod Delays
+pub mod HopsWidths

@@ -1,5 +1,6 @@
 // Fewer links first, then the greater width, which is that of the narrowest link.
 ghost use Rattle.measure.specs.HopsWidth.{hops_width};
+ghost use Rattle.measure.specs.HopsWidths.{hops_width_laws};
 ghost use Rattle.measure.specs.WidthFirst.{WidthFirstFails};
 
 use crate::Measure;
@@ -17,6 +18,8 @@ impl Measure for HopsWidth {
     type Cost = HopsWidthCost;
 
     ghost measure = { hops_width };
+
+    ghost laws = { hops_width_laws };
 
     fn start() -> HopsWidthCost {
         HopsWidthCost {

@@ -1,3 +1,4 @@
+-- Hops and then width keep the laws of a measure. Assumes nothing.
 use Rattle.std.proofs.Common.{◌≡◌, ℕ, ◌+◌, ◌<◌, ◌≤◌, min, Bool, true, false, ◌&&◌, ◌||◌, eqb, ltb, leb, ◌⊎◌, List, [], ◌∷◌, length, sym, refl, ap, ◌∙◌, inl, inr, ⊎_elim, arith}
 use Rattle.std.specs.List.{AllByRecursion as All}
 use Rattle.std.proofs.lemmas.Bool.{ltb-true, ltb-false, lt-ltb, le-ltb, le-leb, and_from, eqb-true, eqb-false, eq-eqb, ne_eqb, cases_Bool, both_ways}
@@ -6,7 +7,6 @@ use Rattle.network.specs.Limits.{Limits}
 use Rattle.measure.specs.declared.hops_width.HopsWidthCost.{HopsWidthCost}
 use Rattle.measure.specs.Measures.{Laws, total}
 use Rattle.measure.specs.HopsWidth.{hops_cost, hops_width}
-use Rattle.measure.proofs.hops_width.HopsWidthMeasure.TheImpl.Goals as goal
 
 -- the order on numbers
 abbrev Sooner : ℕ → ℕ → ℕ → ℕ → Type 0
@@ -62,8 +62,8 @@ in_range : (c : HopsWidthCost) → c.hops ≤ 1024 → 1 ≤ c.width → c.width
 in_range c h l u =
     and_from (leb c.hops 1024) (leb 1 c.width && leb c.width 1000000) (le-leb c.hops 1024 h) (and_from (leb 1 c.width) (leb c.width 1000000) (le-leb 1 c.width l) (le-leb c.width 1000000 u))
 
-pub laws-law : goal.laws-law
-laws-law = record {
+pub hops_width_laws : Laws hops_width
+hops_width_laws = record {
   irreflexive = λ p. not_sooner_false p.hops p.width p.hops p.width (λ s. ⊎_elim (λ z. omega arith) (λ z. omega (arith, z.1)) s);
   transitive = λ p q r h k.
       sooner_true p.hops p.width r.hops r.width
