@@ -8,14 +8,14 @@ use measure::Measure;
 
 // With the destination's two entries alone, both of them waiting, the invariant holds.
 pub fn labels_start<M: Measure>() -> u8
-    ensures { LabelsStart measure }
+    ensures { LabelsStart M.measure }
 {
     0
 }
 
 // When nothing waits any more, the invariant says that the table has the cheapest legal paths.
 pub fn labels_end<M: Measure>() -> u8
-    ensures { LabelsEnd measure }
+    ensures { LabelsEnd M.measure }
 {
     0
 }

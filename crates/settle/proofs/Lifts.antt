@@ -17,6 +17,7 @@ use Rattle.legality.specs.Networks.{net_of}
 use Rattle.legality.specs.Networks as networks
 use Rattle.waiting.specs.Lists.{held, room, memory}
 use Rattle.waiting.specs.Calls.{Sets}
+use Rattle.measure.specs.declared.Measure.{Ghosts}
 use Rattle.waiting.specs.declared.list.Waiting as lists
 use Rattle.waiting.proofs.Rooms.{room_left}
 use Rattle.labels.specs.Labels.{Waiting, Outcome, Elsewhere, Less}
@@ -154,7 +155,7 @@ module _ {C : Type 0} (m : Measure C) (roster : List ℕ) (few : length roster �
   offered_bounded low (Offered.stays n z l q same) p k h = low p k (ap (λ g. g p) (sym same) ∙ h)
 
 -- The waiting list has room for each place of the column that does not wait.
-pub has_room : {X C : Type 0} (s : C) (roster : List ℕ) (column : List (Entry C)) (w : lists.Waiting X C) → Tidy s roster column (held w) (length (memory w)) → (p : ℕ) → p < length column → held w p ≡ None → 0 < room w
+pub has_room : {X C : Type 0} {g : Ghosts X C} (s : C) (roster : List ℕ) (column : List (Entry C)) (w : lists.Waiting X C g) → Tidy s roster column (held w) (length (memory w)) → (p : ℕ) → p < length column → held w p ≡ None → 0 < room w
 has_room s roster column w tidy p h idle = room_left w (length column) p h tidy.bounded idle tidy.spacious
 
 -- The same with all that holds on the relation: the AS b = (get_or roster from 0) was taken at c, and (relation, figures) leads from a to it.

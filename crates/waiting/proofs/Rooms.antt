@@ -1,6 +1,7 @@
 -- A waiting list whose places are all below N, and that lacks one of them, has room if its memory has N slots. Assumes nothing.
 use Rattle.std.proofs.Common.{◌≡◌, ℕ, zero, suc, ◌+◌, ◌<◌, ◌≤◌, true, false, cond, eqb, ◌≢◌, length, get_or, is_some, Some, None, Option, sym, refl, ap, ◌∙◌, subst, ⊎_elim, arith}
 use Rattle.std.proofs.lemmas.Bool.{both_ways, cases_eq, eq-eqb, ne_eqb, cond-true, cond-false}
+use Rattle.measure.specs.declared.Measure.{Ghosts}
 use Rattle.waiting.specs.declared.list.Waiting.{Waiting}
 use Rattle.waiting.specs.Slots.{places, held_in}
 use Rattle.waiting.specs.Lists.{held, room, memory}
@@ -86,7 +87,7 @@ some_of : {C : Type 0} (o : Option C) → is_some o ≡ true → (k : C) × (o �
 some_of None e = absurd (both_ways false refl e)
 some_of (Some k) e = (k, refl)
 
-module _ {X C : Type 0} (w : Waiting X C) where
+module _ {X C : Type 0} {g : Ghosts X C} (w : Waiting X C g) where
   abbrev n : ℕ
   n = w.used
 

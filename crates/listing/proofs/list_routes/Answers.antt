@@ -8,8 +8,8 @@ use Rattle.listing.proofs.list_routes.Goals as goal
 pub returns-in-Err : goal.returns-in-Err
 returns-in-Err c = malformed c.in-Err.fault (omega arith) c.in-Err.ensures.surveys refl
 
-pub table-of-requires : goal.table-of-requires
-table-of-requires c =
+pub table_of-requires : goal.table_of-requires
+table_of-requires c =
     let found = vec_items c.survey.new.ases in
     let e = c.in-default.ensures in
     record {
@@ -20,4 +20,4 @@ table-of-requires c =
 pub returns : goal.returns
 returns c =
     let same = c.deref.ensures.value in
-    IfOk-weaker c.table-of.result _ _ (λ l t. well_formed (vec_items c.survey.new.ases) (omega arith) c.in-default.ensures.surveys (subst (λ xs. Tables xs c.args.text.now l) same t)) c.table-of.ensures
+    IfOk-weaker c.table_of.result _ _ (λ l t. well_formed (vec_items c.survey.new.ases) (omega arith) c.in-default.ensures.surveys (subst (λ xs. Tables xs c.args.text.now l) same t)) c.table_of.ensures

@@ -15,8 +15,8 @@ enough n h =
     let square : 2 * n * n ≤ 48 * 24 = mul-le-mul twice h in
     or_from (ltb 1152 (2 * n * n)) (ltb 24 n) (le-ltb 1152 (2 * n * n) square) (le-ltb 24 n h)
 
-pub fill-table-requires : goal.fill-table-requires
-fill-table-requires c =
+pub fill_table-requires : goal.fill_table-requires
+fill_table-requires c =
     let n = length c.args.ases.now in
     record {
       ases = c.new-store.ensures.roster ∙ own_roster c.args.ases.now c.requires.few c.requires.rising;

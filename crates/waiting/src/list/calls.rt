@@ -30,7 +30,7 @@ impl<'a, M: Measure> Waiting<'a, M> {
 
     // Has `place`, which waits, wait at the lower `cost`.
     pub fn lower(&mut self, place: u32, cost: M::Cost) -> Result<(), WaitingRefusal>
-        ensures after { Lower measure.less place cost (held self.old) (held self.new) (room self.old) (room self.new) (memory self.old) (memory self.new) result }
+        ensures after { Lower M.measure.less place cost (held self.old) (held self.new) (room self.old) (room self.new) (memory self.old) (memory self.new) result }
         ensures lent { lent self.new ≡ lent self.old }
     {
         let Waiting { slots, used } = self;
@@ -39,7 +39,7 @@ impl<'a, M: Measure> Waiting<'a, M> {
 
     // Takes out the place of the least cost, the smallest one among equals.
     pub fn take(&mut self) -> Option<Slot<M::Cost>>
-        ensures after { Take measure.less (held self.old) (held self.new) (room self.old) (room self.new) (memory self.old) (memory self.new) result }
+        ensures after { Take M.measure.less (held self.old) (held self.new) (room self.old) (room self.new) (memory self.old) (memory self.new) result }
         ensures lent { lent self.new ≡ lent self.old }
     {
         let Waiting { slots, used } = self;

@@ -26,7 +26,7 @@ fn find<C: Copy>(slots: &[Slot<C>], used: usize, place: u32) -> usize
 
 // Whether `a` is taken before `b`.
 fn is_sooner<M: Measure>(a: Slot<M::Cost>, b: Slot<M::Cost>) -> bool
-    ensures { result ≡ sooner measure.less a b }
+    ensures { result ≡ sooner M.measure.less a b }
 {
     if M::less(a.cost, b.cost) {
         return true;
@@ -40,7 +40,7 @@ fn is_sooner<M: Measure>(a: Slot<M::Cost>, b: Slot<M::Cost>) -> bool
 // Where the slot stands that is taken first.
 fn first<M: Measure>(slots: &[Slot<M::Cost>], used: usize) -> usize
     requires { (0 < used) × (used ≤ length slots.now) }
-    ensures { IsFirstBest (sooner measure.less) slots.now used result }
+    ensures { IsFirstBest (sooner M.measure.less) slots.now used result }
 {
     let mut best = 0;
     let mut i = 1;
@@ -86,7 +86,7 @@ pub(super) fn lower_in<M: Measure>(
 ) -> Result<(), WaitingRefusal>
     requires fits { used ≤ length slots.old }
     requires apart { Apart used slots.old }
-    ensures after { Lower measure.less place cost (held_in used slots.old) (held_in used slots.new) (room_in used slots.old) (room_in used slots.new) slots.old slots.new result }
+    ensures after { Lower M.measure.less place cost (held_in used slots.old) (held_in used slots.new) (room_in used slots.old) (room_in used slots.new) slots.old slots.new result }
     ensures apart { Apart used slots.new }
 {
     let i = find(slots, used, place);
@@ -107,7 +107,7 @@ pub(super) fn take_from<M: Measure>(
 ) -> Option<Slot<M::Cost>>
     requires fits { used.old ≤ length slots.old }
     requires apart { Apart used.old slots.old }
-    ensures after { Take measure.less (held_in used.old slots.old) (held_in used.new slots.new) (room_in used.old slots.old) (room_in used.new slots.new) slots.old slots.new result }
+    ensures after { Take M.measure.less (held_in used.old slots.old) (held_in used.new slots.new) (room_in used.old slots.old) (room_in used.new slots.new) slots.old slots.new result }
     ensures fits { used.new ≤ length slots.new }
     ensures apart { Apart used.new slots.new }
 {

@@ -23,8 +23,8 @@ returns-in-Err g c =
     let told = as_told c.args.ases.now (g.S.Store.roster was) c.args.text.now (g.S.Store.book was) then (g.S.EditableStore.limit was) table.entries.now table.marks.now c.load.new.table.marks.now (Err c.in-Err.fault) c.requires.ases c.requires.limit c.requires.empty c.in-Err.ensures.loads in
     refused then c.in-Err.fault (record { entries = table.entries.now; marks = table.marks.now; marks_then = c.load.new.table.marks.now; enough = c.requires.enough; loads = told }) refl
 
-pub settle-all-requires : goal.settle-all-requires
-settle-all-requires g c =
+pub settle_all-requires : goal.settle_all-requires
+settle_all-requires g c =
     let was = c.args.store.now in
     let then = c.load.new.store in
     let table = c.args.table.now in
@@ -50,5 +50,5 @@ returns g c =
     let ases = c.args.ases.now in
     let e = c.in-default.ensures in
     let told = as_told ases (g.S.Store.roster was) c.args.text.now (g.S.Store.book was) (g.S.Store.book then) (g.S.EditableStore.limit was) table.entries.now table.marks.now c.load.new.table.marks.now (Ok c.in-default.field-0) c.requires.ases c.requires.limit c.requires.empty e.loads in
-    listed (g.S.Store.book then) c.in-default.field-0 c.in-ok-rows.rows (record { entries = table.entries.now; marks = table.marks.now; marks_then = c.load.new.table.marks.now; enough = c.requires.enough; loads = told })
-    (subst (λ xs. RowsRight (net_of xs (g.S.Store.book then)) (pairs_from ases ases) (vec_items c.in-ok-rows.rows)) (e.roster ∙ c.requires.ases) c.in-ok-rows.ensures) refl
+    listed (g.S.Store.book then) c.in-default.field-0 c.in_ok-rows.rows (record { entries = table.entries.now; marks = table.marks.now; marks_then = c.load.new.table.marks.now; enough = c.requires.enough; loads = told })
+    (subst (λ xs. RowsRight (net_of xs (g.S.Store.book then)) (pairs_from ases ases) (vec_items c.in_ok-rows.rows)) (e.roster ∙ c.requires.ases) c.in_ok-rows.ensures) refl

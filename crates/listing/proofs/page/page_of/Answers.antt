@@ -15,7 +15,7 @@ pub loop-row-preserved : goal.loop-row-preserved
 loop-row-preserved c =
     let xs = c.args.rows.now in
     let i = c.loop-row.row-index in
-    c.in-ok-put-row.ensures ∙
+    c.in_ok-put_row.ensures ∙
     (ap (λ bs. bs ++ row_line (get_or xs i zeros)) c.loop-row.invariant ∙
     (flat_map_more row_line [] (take i xs) (get_or xs i zeros) ∙ ap page (sym (take_more xs i zeros c.loop-row-test.true))))
 

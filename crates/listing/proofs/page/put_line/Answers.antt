@@ -10,7 +10,7 @@ loop-number-preserved c =
     let i = c.loop-number.number-index in
     let was = string_bytes c.args.text.now in
     let x = get_or xs i 0 in
-    c.in-ok-put-column.ensures ∙
+    c.in_ok-put_column.ensures ∙
     (ap (λ bs. bs ++ column x) c.loop-number.invariant ∙
     (flat_map_more column was (take i xs) x ∙ ap (λ ys. was ++ flat_map column ys) (sym (take_more xs i 0 c.loop-number-test.true))))
 
@@ -18,7 +18,7 @@ pub returns : goal.returns
 returns c =
     let xs = c.args.numbers.now in
     let was = string_bytes c.args.text.now in
-    let pushed = c.in-ok-push.ensures in
+    let pushed = c.in_ok-push.ensures in
     let all = ap (λ ys. was ++ flat_map column ys) (take_all c.loop-number.number-index xs c.loop-number-test.false) in
     pushed.bytes ∙
     (ap (λ ds. string_bytes c.loop-number.text ++ ds) (pushed.ascii (omega arith)) ∙

@@ -8,10 +8,10 @@ use Rattle.listing.specs.declared.types.Row.{Row}
 use Rattle.listing.specs.Rows.{RowsRight, pairs_of}
 use Rattle.listing.proofs.Rows.{row_more, row_same}
 use Rattle.listing.proofs.routes.add_rows.Goals as goal
-use Rattle.listing.proofs.routes.add_rows.Goals.{then-destination-source+in-ok-push, else-destination-source}
+use Rattle.listing.proofs.routes.add_rows.Goals.{then-destination-source+in_ok-push, else-destination-source}
 
-pub row-of-requires : goal.row-of-requires
-row-of-requires g c =
+pub row_of-requires : goal.row_of-requires
+row_of-requires g c =
     let ases = c.args.ases.now in
     let i = c.loop-destination.destination-index in
     let there = subst (Among (get_or ases i 0)) c.requires.all (stands_among ases i c.loop-destination-test.true) in
@@ -24,8 +24,8 @@ row-of-requires g c =
       settled = (h.0, h.1, h.2 (get_or ases i 0) there);
     }
 
-pub returns-in-err-push : goal.returns-in-err-push
-returns-in-err-push g c = IfOk-from_err c.from-residual.result _ c.from-residual.ensures.0
+pub returns-in_err-push : goal.returns-in_err-push
+returns-in_err-push g c = IfOk-from_err c.from_residual.result _ c.from_residual.ensures.0
 
 pub loop-destination-preserved : goal.loop-destination-preserved
 loop-destination-preserved g c =
@@ -35,10 +35,10 @@ loop-destination-preserved g c =
     let inv = c.loop-destination.invariant in
     let first = vec_items c.args.rows.now in
     elim c.if-destination-source.branch [
-      | then-destination-source+in-ok-push w ↦ (
-        inv.0 ++ w.row-of.result ∷ [],
-        ap vec_items w.rows-is ∙ (w.in-ok-push.ensures.items ∙ (ap (λ xs. xs ++ w.row-of.result ∷ []) inv.1 ∙ append_assoc first inv.0 (w.row-of.result ∷ []))),
-        row_more net c.args.source ases i c.loop-destination-test.true inv.0 inv.2 w.row-of.result w.if-destination-source.true w.row-of.ensures,
+      | then-destination-source+in_ok-push w ↦ (
+        inv.0 ++ w.row_of.result ∷ [],
+        ap vec_items w.rows-is ∙ (w.in_ok-push.ensures.items ∙ (ap (λ xs. xs ++ w.row_of.result ∷ []) inv.1 ∙ append_assoc first inv.0 (w.row_of.result ∷ []))),
+        row_more net c.args.source ases i c.loop-destination-test.true inv.0 inv.2 w.row_of.result w.if-destination-source.true w.row_of.ensures,
       )
       | else-destination-source w ↦
           (inv.0, ap vec_items w.rows-is ∙ inv.1, row_same net c.args.source ases i c.loop-destination-test.true inv.0 inv.2 w.if-destination-source.false)

@@ -7,8 +7,8 @@ use Rattle.listing.specs.Rows.{RowsRight, pairs_from}
 use Rattle.listing.proofs.Rows.{rows_more}
 use Rattle.listing.proofs.routes.rows_of.Goals as goal
 
-pub add-rows-requires : goal.add-rows-requires
-add-rows-requires g c =
+pub add_rows-requires : goal.add_rows-requires
+add_rows-requires g c =
     record {
       all = c.requires.all;
       source = subst (Among (get_or c.args.ases.now c.loop-source.source-index 0)) c.requires.all (stands_among c.args.ases.now c.loop-source.source-index c.loop-source-test.true);
@@ -20,7 +20,7 @@ pub loop-source-preserved : goal.loop-source-preserved
 loop-source-preserved g c =
     let net = net_of (g.S.Store.roster c.args.store.now) (g.S.Store.book c.args.store.now) in
     let ases = c.args.ases.now in
-    let e = c.in-ok-add-rows.ensures in
+    let e = c.in_ok-add_rows.ensures in
     subst (RowsRight net (pairs_from (take (c.loop-source.source-index + 1) ases) ases)) (sym e.1) (rows_more net ases c.loop-source.source-index c.loop-source-test.true (vec_items c.loop-source.rows) e.0 c.loop-source.invariant e.2)
 
 pub returns : goal.returns

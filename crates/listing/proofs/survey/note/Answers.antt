@@ -21,39 +21,39 @@ new xs zs a i q e t lt eq =
     let there = and_from (ltb i (length zs)) (eqb (get_or zs i 0) a) (lt-ltb i (length zs) (omega (arith, ap length q, e, lt))) (eq-eqb (get_or zs i 0) a (ap (λ ys. get_or ys i 0) q ∙ (ap (λ k. get_or xs k 0) e ∙ eq))) in
     both_ways (ltb i (length zs) && eqb (get_or zs i 0) a) (sym t) there
 
-pub returns-then-stands-at : goal.returns-then-stands-at
-returns-then-stands-at c =
+pub returns-then-stands_at : goal.returns-then-stands_at
+returns-then-stands_at c =
     let xs = vec_items c.args.ases.now in
     let a = c.args.number in
-    let spot = spot_is xs c.deref.result.now a c.spot-of-spot.result c.deref.ensures.value c.spot-of-spot.ensures in
-    let same = known xs c.deref-2.result.now a c.spot-of-spot.result c.deref-2.ensures.value spot c.if-stands-at.ensures in
+    let spot = spot_is xs c.deref.result.now a c.spot_of-spot.result c.deref.ensures.value c.spot_of-spot.ensures in
+    let same = known xs c.deref-2.result.now a c.spot_of-spot.result c.deref-2.ensures.value spot c.if-stands_at.ensures in
     let few : length (noted a xs) < 25 = omega (arith, ap length same, c.requires.few, c.args.ases.now.ok.0) in
     record { room = c.requires.room; answer = sym (lt-ltb (length (noted a xs)) 25 few); ases = sym same }
 
-pub returns-then-len-eq-MOST-ASES : goal.returns-then-len-eq-MOST-ASES
-returns-then-len-eq-MOST-ASES c =
+pub returns-then-len-eq-MOST_ASES : goal.returns-then-len-eq-MOST_ASES
+returns-then-len-eq-MOST_ASES c =
     let xs = vec_items c.args.ases.now in
     let a = c.args.number in
-    let spot = spot_is xs c.deref.result.now a c.spot-of-spot.result c.deref.ensures.value c.spot-of-spot.ensures in
-    let more = length_new a xs (new xs c.deref-2.result.now a c.spot-of-spot.result c.deref-2.ensures.value spot c.if-stands-at.ensures) in
-    let many : 25 ≤ length (noted a xs) = omega (arith, more, c.if-len-eq-MOST-ASES.true, c.len.ensures, c.args.ases.now.ok.0) in
+    let spot = spot_is xs c.deref.result.now a c.spot_of-spot.result c.deref.ensures.value c.spot_of-spot.ensures in
+    let more = length_new a xs (new xs c.deref-2.result.now a c.spot_of-spot.result c.deref-2.ensures.value spot c.if-stands_at.ensures) in
+    let many : 25 ≤ length (noted a xs) = omega (arith, more, c.if-len-eq-MOST_ASES.true, c.len.ensures, c.args.ases.now.ok.0) in
     record { room = c.requires.room; answer = sym (le-ltb (length (noted a xs)) 25 many); ases = refl }
 
 pub insert-requires : goal.insert-requires
 insert-requires c =
     let xs = vec_items c.args.ases.now in
-    let spot = spot_is xs c.deref.result.now c.args.number c.spot-of-spot.result c.deref.ensures.value c.spot-of-spot.ensures in
+    let spot = spot_is xs c.deref.result.now c.args.number c.spot_of-spot.result c.deref.ensures.value c.spot_of-spot.ensures in
     omega (arith, spot, spot_within c.args.number xs, c.args.ases.now.ok.0)
 
 pub returns : goal.returns
 returns c =
     let xs = vec_items c.args.ases.now in
     let a = c.args.number in
-    let i = c.spot-of-spot.result in
-    let spot = spot_is xs c.deref.result.now a i c.deref.ensures.value c.spot-of-spot.ensures in
-    let fresh = new xs c.deref-2.result.now a i c.deref-2.ensures.value spot c.if-stands-at.ensures in
+    let i = c.spot_of-spot.result in
+    let spot = spot_is xs c.deref.result.now a i c.deref.ensures.value c.spot_of-spot.ensures in
+    let fresh = new xs c.deref-2.result.now a i c.deref-2.ensures.value spot c.if-stands_at.ensures in
     let more = length_new a xs fresh in
-    let short : vec_len c.args.ases.now < 24 = omega (arith, c.requires.few, c.if-len-eq-MOST-ASES.false, c.len.ensures) in
+    let short : vec_len c.args.ases.now < 24 = omega (arith, c.requires.few, c.if-len-eq-MOST_ASES.false, c.len.ensures) in
     let few : length (noted a xs) < 25 = omega (arith, more, short, c.args.ases.now.ok.0) in
     let made = c.insert.ensures.succeeds (omega (arith, short, c.requires.room)) in
     record {

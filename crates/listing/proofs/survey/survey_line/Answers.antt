@@ -11,26 +11,26 @@ use Rattle.listing.proofs.survey.survey_line.Goals as goal
 surveyed_fault : (want : Result (List ℕ) Cause) (ases : List ℕ) (r : Result (Unit {0}) Cause) (x : Cause) → r ≡ Err x → want ≡ Err x → Surveyed want ases r
 surveyed_fault want ases r x p q = subst (Surveyed want ases) (sym p) q
 
-pub returns-in-err-survey-figures : goal.returns-in-err-survey-figures
-returns-in-err-survey-figures c =
-    let p = err_from_is_err_and c.from-residual-in-err-survey-figures.result c.from-residual-in-err-survey-figures.ensures.1 in
-    let e = c.in-err-survey-figures.field-0.0 in
-    let all = line_by (left c.args.reader.now) (left c.survey-as.new.reader) (left c.survey-as-2.new.reader) (vec_items c.args.ases.now) (vec_items c.survey-as.new.ases) (vec_items c.survey-as-2.new.ases) c.in-ok-begin-line.field-0 (Err e) c.in-ok-begin-line.ensures c.in-ok-survey-as.ensures.answer c.survey-as.ensures.moved.1 c.in-ok-survey-as-2.ensures.answer c.survey-as-2.ensures.moved.1 c.in-err-survey-figures.ensures.answer in
+pub returns-in_err-survey_figures : goal.returns-in_err-survey_figures
+returns-in_err-survey_figures c =
+    let p = err_from_is_err_and c.from_residual-in_err-survey_figures.result c.from_residual-in_err-survey_figures.ensures.1 in
+    let e = c.in_err-survey_figures.field-0.0 in
+    let all = line_by (left c.args.reader.now) (left c.survey_as.new.reader) (left c.survey_as-2.new.reader) (vec_items c.args.ases.now) (vec_items c.survey_as.new.ases) (vec_items c.survey_as-2.new.ases) c.in_ok-begin_line.field-0 (Err e) c.in_ok-begin_line.ensures c.in_ok-survey_as.ensures.answer c.survey_as.ensures.moved.1 c.in_ok-survey_as-2.ensures.answer c.survey_as-2.ensures.moved.1 c.in_err-survey_figures.ensures.answer in
     record {
-      room = c.survey-as-2.ensures.room;
-      few = c.survey-as-2.ensures.few;
-      answer = surveyed_fault _ _ c.from-residual-in-err-survey-figures.result p.0 p.1 (all ∙ ap Err (sym p.2));
+      room = c.survey_as-2.ensures.room;
+      few = c.survey_as-2.ensures.few;
+      answer = surveyed_fault _ _ c.from_residual-in_err-survey_figures.result p.0 p.1 (all ∙ ap Err (sym p.2));
       moved = λ ok. absurd (both_ways _ (ap is_ok p.1) ok);
     }
 
 pub returns : goal.returns
 returns c =
     let bs = left c.args.reader.now in
-    let all = line_by bs (left c.survey-as.new.reader) (left c.survey-as-2.new.reader) (vec_items c.args.ases.now) (vec_items c.survey-as.new.ases) (vec_items c.survey-as-2.new.ases) c.in-ok-begin-line.field-0 (Ok c.in-ok-survey-figures.field-0) c.in-ok-begin-line.ensures c.in-ok-survey-as.ensures.answer c.survey-as.ensures.moved.1 c.in-ok-survey-as-2.ensures.answer c.survey-as-2.ensures.moved.1 c.in-ok-survey-figures.ensures.answer in
-    let two = c.survey-as-2.ensures.moved.1 ∙ (ap (drop 10) c.survey-as.ensures.moved.1 ∙ drop-drop 10 10 bs) in
+    let all = line_by bs (left c.survey_as.new.reader) (left c.survey_as-2.new.reader) (vec_items c.args.ases.now) (vec_items c.survey_as.new.ases) (vec_items c.survey_as-2.new.ases) c.in_ok-begin_line.field-0 (Ok c.in_ok-survey_figures.field-0) c.in_ok-begin_line.ensures c.in_ok-survey_as.ensures.answer c.survey_as.ensures.moved.1 c.in_ok-survey_as-2.ensures.answer c.survey_as-2.ensures.moved.1 c.in_ok-survey_figures.ensures.answer in
+    let two = c.survey_as-2.ensures.moved.1 ∙ (ap (drop 10) c.survey_as.ensures.moved.1 ∙ drop-drop 10 10 bs) in
     record {
-      room = c.survey-as-2.ensures.room;
-      few = c.survey-as-2.ensures.few;
+      room = c.survey_as-2.ensures.room;
+      few = c.survey_as-2.ensures.few;
       answer = all;
-      moved = λ _. c.in-ok-survey-figures.ensures.moved refl ∙ (ap (drop 21) two ∙ drop-drop 21 20 bs);
+      moved = λ _. c.in_ok-survey_figures.ensures.moved refl ∙ (ap (drop 21) two ∙ drop-drop 21 20 bs);
     }

@@ -7,5 +7,5 @@ returns c =
     let n = c.args.n in
     let to = c.args.to in
     let from = c.args.from in
-    let number = c.class-number.ensures in
+    let number = c.class_number.ensures in
     record { is = omega arith; below = omega (arith, index_below n to from c.args.class c.requires.to c.requires.from) }

@@ -24,7 +24,7 @@ loop-count-preserved g c =
     let net = net_of roster (g.S.Store.book s) in
     let entries = c.args.entries.now in
     let l = c.loop-count in
-    let low : l.count < 2 * length roster = omega (arith, c.as-count-most.ensures) in
+    let low : l.count < 2 * length roster = omega (arith, c.as_count-most.ensures) in
     let some : next_of m net entries c.args.to l.place l.class ≡ Some (c.in-Some.next, c.in-Some.after) = sym c.in-Some.ensures in (
       next_below m net entries c.args.to l.place l.class c.in-Some.next c.in-Some.after some,
       passed_more m net entries c.args.to (walk m net entries (2 * length roster) c.args.to c.args.from Home) (2 * length roster) l.place l.class l.count l.invariant.1 low c.if-place-to.false c.in-Some.next c.in-Some.after some,
@@ -41,27 +41,27 @@ walked g c =
     let entries = c.args.entries.now in
     let l = c.loop-count in
     let whole = walk m net entries (2 * length roster) c.args.to c.args.from Home in
-    let most : c.as-count-most.result ≡ length roster = c.as-count-most.ensures in
+    let most : c.as_count-most.result ≡ length roster = c.as_count-most.ensures in
     elim c.if-count-most.branch [
       | then-count-most w ↦ passed_long m net entries c.args.to whole (2 * length roster) l.place l.class l.count l.invariant.1 (omega (arith, most, w.if-count-most.true)) ∙ sym (ap (more 1) w.walked-is)
       | else-count-most+then-place-to w ↦
           passed_there m net entries c.args.to whole (2 * length roster) l.place l.class l.count l.invariant.1 (omega (arith, most, w.if-count-most.false)) w.if-place-to.true ∙ sym (ap (more 1) w.walked-is)
       | else-count-most+else-place-to+in-default w ↦
-          passed_false m net entries c.args.to whole (2 * length roster) l.place l.class l.count l.invariant.1 (omega (arith, most, w.if-count-most.false)) w.if-place-to.false (sym w.step-on.ensures ∙ w.in-default.is) ∙ sym (ap (more 1) w.walked-is)
+          passed_false m net entries c.args.to whole (2 * length roster) l.place l.class l.count l.invariant.1 (omega (arith, most, w.if-count-most.false)) w.if-place-to.false (sym w.step_on.ensures ∙ w.in-default.is) ∙ sym (ap (more 1) w.walked-is)
     ]
 
-pub returns-in-err-links : goal.returns-in-err-links
-returns-in-err-links g c =
-    let h = walked g (goal.at.returns-in-err-links g c).After-branch-links in
-    let refused : c.from-residual.result ≡ Err c.in-err-links.field-0.0 = search rules in
-    refused ∙ sym (links_refused _ c.args.room c.in-err-links.field-0.0 (h ∙ ap (more 1) c.in-err-links.was))
+pub returns-in_err-links : goal.returns-in_err-links
+returns-in_err-links g c =
+    let h = walked g (goal.at.returns-in_err-links g c).After-branch-links in
+    let refused : c.from_residual.result ≡ Err c.in_err-links.field-0.0 = search rules in
+    refused ∙ sym (links_refused _ c.args.room c.in_err-links.field-0.0 (h ∙ ap (more 1) c.in_err-links.was))
 
 pub returns-then-room-links : goal.returns-then-room-links
 returns-then-room-links g c =
     let h = walked g (goal.at.returns-then-room-links g c).After-branch-links in
-    sym (links_short _ c.args.room c.in-ok-links.links (h ∙ ap (more 1) c.in-ok-links.was) (omega (arith, c.if-room-links.true)))
+    sym (links_short _ c.args.room c.in_ok-links.links (h ∙ ap (more 1) c.in_ok-links.was) (omega (arith, c.if-room-links.true)))
 
 pub returns : goal.returns
 returns g c =
     let h = walked g (goal.at.returns g c).After-branch-links in
-    sym (links_fit _ c.args.room c.in-ok-links.links (h ∙ ap (more 1) c.in-ok-links.was) (omega (arith, c.if-room-links.false)))
+    sym (links_fit _ c.args.room c.in_ok-links.links (h ∙ ap (more 1) c.in_ok-links.was) (omega (arith, c.if-room-links.false)))

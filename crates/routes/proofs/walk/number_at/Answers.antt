@@ -6,5 +6,5 @@ use Rattle.routes.proofs.walk.number_at.Goals as goal
 pub returns : goal.returns
 returns g c =
     let roster = g.S.Store.roster c.args.store.now in
-    let same : unwrap_or c.as-at.result 0 ≡ unwrap_or (at roster c.args.spot) 0 = ap (λ (o : Option ℕ). unwrap_or o 0) c.as-at.ensures in
-    c.unwrap-or.ensures ∙ same ∙ value_at roster c.args.spot
+    let same : unwrap_or c.as_at.result 0 ≡ unwrap_or (at roster c.args.spot) 0 = ap (λ (o : Option ℕ). unwrap_or o 0) c.as_at.ensures in
+    c.unwrap_or.ensures ∙ same ∙ value_at roster c.args.spot

@@ -8,5 +8,5 @@ returns g c =
     let count : ℕ = c.args.count in
     let x = c.args.x in
     let whole : count - vec_len c.new-items.result ≡ count = omega (arith, made.len) in
-    c.in-ok-resize.ensures.items ∙ ap (λ xs. take count xs ++ replicate (count - vec_len c.new-items.result) x) made.items ∙
+    c.in_ok-resize.ensures.items ∙ ap (λ xs. take count xs ++ replicate (count - vec_len c.new-items.result) x) made.items ∙
     ap (λ xs. xs ++ replicate (count - vec_len c.new-items.result) x) (take_all count [] (omega arith)) ∙ ap (λ k. replicate k x) whole

@@ -4,10 +4,10 @@ use Rattle.runs.proofs.calls.settle_with.Goals as goal
 
 pub returns : goal.returns
 returns g c =
-    let slots = c.as-mut-slice in
-    let words = c.as-mut-slice-2 in
-    let waiting : length slots.result.now ≡ c.args.waiting = ap length (slots.ensures.value ∙ c.in-ok-slots.ensures) ∙ length-replicate c.args.waiting _ in
-    let numbers : length words.result.now ≡ c.args.numbers = ap length (words.ensures.value ∙ c.in-ok-words.ensures) ∙ length-replicate c.args.numbers _ in
+    let slots = c.as_mut_slice in
+    let words = c.as_mut_slice-2 in
+    let waiting : length slots.result.now ≡ c.args.waiting = ap length (slots.ensures.value ∙ c.in_ok-slots.ensures) ∙ length-replicate c.args.waiting _ in
+    let numbers : length words.result.now ≡ c.args.numbers = ap length (words.ensures.value ∙ c.in_ok-words.ensures) ∙ length-replicate c.args.numbers _ in
     let lent = c.settle.ensures.lent in
     let work = c.settle.new.work in
     record {

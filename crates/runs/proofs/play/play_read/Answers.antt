@@ -20,8 +20,8 @@ returns-in-Hop g c =
           (hop_played m b p stands g.met.M.Measure.laws (g.met.S.Store.sound s) h.source h.class h.destination c.hop_answer.result c.hop_answer.ensures);
     }
 
-pub returns-in-ok-answer-2 : goal.returns-in-ok-answer-2
-returns-in-ok-answer-2 g c =
+pub returns-in_ok-answer-2 : goal.returns-in_ok-answer-2
+returns-in_ok-answer-2 g c =
     record {
       named = (refl, refl);
       plays = λ limit p stands.
@@ -29,44 +29,44 @@ returns-in-ok-answer-2 g c =
           let s = c.args.store.now in
           let b = board_of (g.S.Store.roster s) (g.S.Store.book s) limit c.args.table.now in
           let h = c.in-Send in
-          let a = c.in-ok-answer-2 in
+          let a = c.in_ok-answer-2 in
           subst (λ call. Played m p b (calls.Read call) (Sent a.answer a.list)) (sym h.is)
           (send_played m b p stands g.met.M.Measure.laws (g.met.S.Store.sound s) h.source h.destination h.room a.answer a.list a.ensures.0 a.ensures.1);
     }
 
-pub returns-in-ok-answer : goal.returns-in-ok-answer
-returns-in-ok-answer g c =
-    let a = c.in-ok-answer in
+pub returns-in_ok-answer : goal.returns-in_ok-answer
+returns-in_ok-answer g c =
+    let a = c.in_ok-answer in
     record {
       named = a.ensures.named;
       plays = λ limit p stands.
           let m = g.M.Measure.measure in
           let s = c.args.store.now in
           let b = board_of (g.S.Store.roster s) (g.S.Store.book s) limit c.args.table.now in
-          let then = c.settle-with.new.table in
+          let then = c.settle_with.new.table in
           let h = c.in-Settle in
           subst (λ call. Played m p (board_of (g.S.Store.roster s) (g.S.Store.book s) limit then) (calls.Read call) (Settled a.answer)) (sym h.is)
           (settle_played m b p stands (g.met.S.Store.sound s) h.destination h.waiting h.numbers then.entries.now then.marks.now a.answer a.ensures.settles);
     }
 
-pub returns-in-err-answer : goal.returns-in-err-answer
-returns-in-err-answer g c =
-    let a = c.in-err-answer.ensures in
+pub returns-in_err-answer : goal.returns-in_err-answer
+returns-in_err-answer g c =
+    let a = c.in_err-answer.ensures in
     record {
       named = a.named;
       plays = λ limit.
           let s = c.args.store.now in
           let b = board_of (g.S.Store.roster s) (g.S.Store.book s) limit c.args.table.now in
-          let then = c.settle-with.new.table in
-          not_played g.M.Measure.measure b then.entries.now then.marks.now (calls.Read c.args.call) a.settles.0 a.settles.1 (subst (λ call. Brings (calls.Read call)) (sym c.in-Settle.is) tt) (err_from_is_err_and c.from-residual.result c.from-residual.ensures.1);
+          let then = c.settle_with.new.table in
+          not_played g.M.Measure.measure b then.entries.now then.marks.now (calls.Read c.args.call) a.settles.0 a.settles.1 (subst (λ call. Brings (calls.Read call)) (sym c.in-Settle.is) tt) (err_from_is_err_and c.from_residual.result c.from_residual.ensures.1);
     }
 
-pub returns-in-err-answer-2 : goal.returns-in-err-answer-2
-returns-in-err-answer-2 g c =
+pub returns-in_err-answer-2 : goal.returns-in_err-answer-2
+returns-in_err-answer-2 g c =
     record {
       named = (refl, refl);
       plays = λ limit.
           let s = c.args.store.now in
           let b = board_of (g.S.Store.roster s) (g.S.Store.book s) limit c.args.table.now in
-          not_played g.M.Measure.measure b b.entries b.marks (calls.Read c.args.call) refl refl (subst (λ call. Brings (calls.Read call)) (sym c.in-Send.is) tt) (err_from_is_err_and c.from-residual-in-err-answer-2.result c.from-residual-in-err-answer-2.ensures.1);
+          not_played g.M.Measure.measure b b.entries b.marks (calls.Read c.args.call) refl refl (subst (λ call. Brings (calls.Read call)) (sym c.in-Send.is) tt) (err_from_is_err_and c.from_residual-in_err-answer-2.result c.from_residual-in_err-answer-2.ensures.1);
     }

@@ -18,43 +18,43 @@ before g c = let s = c.args.store.now in board_of (g.S.Store.roster s) (g.S.Stor
 opened : (g : given.Over) (c : In-ok-open g) →
     let b = before g c in
     (small (length b.roster) b.entries b.marks ≡ false) × Ran g.M.Measure.measure (fresh b) (board_of b.roster b.book b.limit c.open.new.table) [] []
-opened g c = let t = c.open.new.table in ran_none g.M.Measure.measure (before g c) t.entries.now t.marks.now c.in-ok-open.ensures.opens
+opened g c = let t = c.open.new.table in ran_none g.M.Measure.measure (before g c) t.entries.now t.marks.now c.in_ok-open.ensures.opens
 
 pub loop-read-init : goal.loop-read-init
 loop-read-init g c = (refl, refl, simp c.new-replies.ensures.items (opened g (goal.at.loop-read-init g c).In-ok-open).1)
 
-pub returns-in-err-reply : goal.returns-in-err-reply
-returns-in-err-reply g c =
-    let o = c.in-ok-open.ensures.named in
+pub returns-in_err-reply : goal.returns-in_err-reply
+returns-in_err-reply g c =
+    let o = c.in_ok-open.ensures.named in
     let i = c.loop-read.invariant in
-    let q = c.in-err-reply.ensures in
-    let start = (goal.at.returns-in-err-reply g c).In-ok-open in
+    let q = c.in_err-reply.ensures in
+    let start = (goal.at.returns-in_err-reply g c).In-ok-open in
     record {
       named = (q.named.0 ∙ i.0 ∙ o.0, q.named.1 ∙ i.1 ∙ o.1);
-      replays = broke_off g.M.Measure.measure (map Read c.args.calls.now) (before g start) c.loop-read.read-index (opened g start).0 i.2 (q.plays None).1 (err_from_is_err_and c.from-residual-in-err-reply.result c.from-residual-in-err-reply.ensures.1);
+      replays = broke_off g.M.Measure.measure (map Read c.args.calls.now) (before g start) c.loop-read.read-index (opened g start).0 i.2 (q.plays None).1 (err_from_is_err_and c.from_residual-in_err-reply.result c.from_residual-in_err-reply.ensures.1);
     }
 
-pub returns-in-err-push : goal.returns-in-err-push
-returns-in-err-push g c =
+pub returns-in_err-push : goal.returns-in_err-push
+returns-in_err-push g c =
     let m = g.M.Measure.measure in
-    let o = c.in-ok-open.ensures.named in
+    let o = c.in_ok-open.ensures.named in
     let i = c.loop-read.invariant in
-    let q = c.in-ok-reply.ensures in
-    let start = (goal.at.returns-in-err-push g c).In-ok-open in
+    let q = c.in_ok-reply.ensures in
+    let start = (goal.at.returns-in_err-push g c).In-ok-open in
     record {
       named = (q.named.0 ∙ i.0 ∙ o.0, q.named.1 ∙ i.1 ∙ o.1);
-      replays = broke_off m (map Read c.args.calls.now) (before g start) (c.loop-read.read-index + 1) (opened g start).0 (read_more m c.args.calls.now _ c.loop-read-test.true i.2 (q.plays None)) refl (err_from_is_err_and c.from-residual-in-err-push.result c.from-residual-in-err-push.ensures.1);
+      replays = broke_off m (map Read c.args.calls.now) (before g start) (c.loop-read.read-index + 1) (opened g start).0 (read_more m c.args.calls.now _ c.loop-read-test.true i.2 (q.plays None)) refl (err_from_is_err_and c.from_residual-in_err-push.result c.from_residual-in_err-push.ensures.1);
     }
 
 pub loop-read-preserved : goal.loop-read-preserved
 loop-read-preserved g c =
     let i = c.loop-read.invariant in
-    let q = c.in-ok-reply.ensures in
-    (q.named.0 ∙ i.0, q.named.1 ∙ i.1, simp c.in-ok-push.ensures.items (read_more g.M.Measure.measure c.args.calls.now _ c.loop-read-test.true i.2 (q.plays None)))
+    let q = c.in_ok-reply.ensures in
+    (q.named.0 ∙ i.0, q.named.1 ∙ i.1, simp c.in_ok-push.ensures.items (read_more g.M.Measure.measure c.args.calls.now _ c.loop-read-test.true i.2 (q.plays None)))
 
 pub returns : goal.returns
 returns g c =
-    let o = c.in-ok-open.ensures.named in
+    let o = c.in_ok-open.ensures.named in
     let i = c.loop-read.invariant in
     let start = (goal.at.returns g c).In-ok-open in
     record { named = (i.0 ∙ o.0, i.1 ∙ o.1); replays = made_all g.M.Measure.measure (map Read c.args.calls.now) (before g start) c.loop-read.replies (opened g start).0 (let same = length-map c.args.calls.now Read in omega (arith, c.loop-read-test.false)) i.2 }

@@ -29,8 +29,8 @@ loop-i-preserved c =
     let left = page (drop (i + 1) xs) (drop (i + 1) ys) in
     let calls = drop_more xs i x (omega arith) ∙ ap (λ z. z ∷ drop (i + 1) xs) (sym c.index-calls-i.is) in
     let replies = drop_more ys i y (omega arith) ∙ ap (λ z. z ∷ drop (i + 1) ys) (sym c.index-replies-i.is) in
-    let line = c.as-str-in-loop-i.ensures.value ∙ (c.in-ok-line.ensures ∙ ap (λ z. answer_line z y) c.as-str.ensures.value) in
-    ap (λ z. z ++ left) (c.in-ok-push-str.ensures.bytes ∙ ap (λ z. text ++ z) line) ∙
+    let line = c.as_str-in-loop-i.ensures.value ∙ (c.in_ok-line.ensures ∙ ap (λ z. answer_line z y) c.as_str.ensures.value) in
+    ap (λ z. z ++ left) (c.in_ok-push_str.ensures.bytes ∙ ap (λ z. text ++ z) line) ∙
     (append_assoc text (answer_line (string_bytes x) y) left ∙
     (sym (ap (λ z. text ++ page z (drop i ys)) calls ∙ ap (λ z. text ++ page (x ∷ drop (i + 1) xs) z) replies) ∙ c.loop-i.invariant))
 

@@ -11,9 +11,9 @@ loop-number-preserved c =
     let was = string_bytes c.args.text.now in
     let had = string_bytes c.loop-number.text in
     let x = get_or xs i 0 in
-    let space = c.in-ok-push.ensures in
-    let digits = c.in-ok-push-str.ensures in
-    let number = c.as-str.ensures.value ∙ c.in-ok-digits.ensures.ok in
+    let space = c.in_ok-push.ensures in
+    let digits = c.in_ok-push_str.ensures in
+    let number = c.as_str.ensures.value ∙ c.in_ok-digits.ensures.ok in
     let front = space.bytes ∙ ap (λ ds. had ++ ds) (space.ascii (omega arith)) in
     digits.bytes ∙
     (ap (λ ds. string_bytes c.push.new.self ++ ds) number ∙

@@ -15,39 +15,39 @@ use Rattle.settle.proofs.links.relax_link.Goals as goal
 pub returns-in-default : goal.returns-in-default
 returns-in-default g c =
     let roster = g.S.Store.roster c.args.store.now in
-    absurd (none_some (sym c.as-at.ensures ∙ c.in-default.is) (at_known roster c.args.from.place 0 c.requires.known))
+    absurd (none_some (sym c.as_at.ensures ∙ c.in-default.is) (at_known roster c.args.from.place 0 c.requires.known))
 
-pub returns-in-default-link-at : goal.returns-in-default-link-at
-returns-in-default-link-at g c =
+pub returns-in-default-link_at : goal.returns-in-default-link_at
+returns-in-default-link_at g c =
     let s = c.args.store.now in
     let roster = g.S.Store.roster s in
     let from = c.args.from in
     let w = c.args.waiting.now in
-    record { after = λ d q r. pass_none g.M.Measure.measure g.met.M.Measure.laws roster (g.S.Store.book s) (g.met.S.Store.sound s) d (get_or roster from.place 0) from.class from.cost q c.args.spot (sym c.link-at.ensures ∙ c.in-default-link-at.is) c.args.column.now (held w) (length (memory w)) r }
+    record { after = λ d q r. pass_none g.M.Measure.measure g.met.M.Measure.laws roster (g.S.Store.book s) (g.met.S.Store.sound s) d (get_or roster from.place 0) from.class from.cost q c.args.spot (sym c.link_at.ensures ∙ c.in-default-link_at.is) c.args.column.now (held w) (length (memory w)) r }
 
-pub returns-in-default-other-end : goal.returns-in-default-other-end
-returns-in-default-other-end g c =
+pub returns-in-default-other_end : goal.returns-in-default-other_end
+returns-in-default-other_end g c =
     let s = c.args.store.now in
     let roster = g.S.Store.roster s in
     let from = c.args.from in
     let w = c.args.waiting.now in
-    let number = as_known roster from.place c.in-Some.number c.requires.known (sym c.as-at.ensures ∙ c.in-Some.is) in
-    let l = c.in-Some-link-at.link in
-    let stands : at (g.S.Store.book s) c.args.spot ≡ Some l = sym c.link-at.ensures ∙ c.in-Some-link-at.is in
-    let far : far_end l (get_or roster from.place 0) ≡ None = ap (far_end l) (sym number) ∙ sym c.other-end.ensures ∙ c.in-default-other-end.is in
+    let number = as_known roster from.place c.in-Some.number c.requires.known (sym c.as_at.ensures ∙ c.in-Some.is) in
+    let l = c.in-Some-link_at.link in
+    let stands : at (g.S.Store.book s) c.args.spot ≡ Some l = sym c.link_at.ensures ∙ c.in-Some-link_at.is in
+    let far : far_end l (get_or roster from.place 0) ≡ None = ap (far_end l) (sym number) ∙ sym c.other_end.ensures ∙ c.in-default-other_end.is in
     record { after = λ d q r. pass_far g.M.Measure.measure g.met.M.Measure.laws roster (g.S.Store.book s) (g.met.S.Store.sound s) d (get_or roster from.place 0) from.class from.cost q c.args.spot l stands far c.args.column.now (held w) (length (memory w)) r }
 
-pub returns-in-default-place-of : goal.returns-in-default-place-of
-returns-in-default-place-of g c =
+pub returns-in-default-place_of : goal.returns-in-default-place_of
+returns-in-default-place_of g c =
     let s = c.args.store.now in
     let roster = g.S.Store.roster s in
     let from = c.args.from in
-    let number = as_known roster from.place c.in-Some.number c.requires.known (sym c.as-at.ensures ∙ c.in-Some.is) in
-    let l = c.in-Some-link-at.link in
-    let stands : at (g.S.Store.book s) c.args.spot ≡ Some l = sym c.link-at.ensures ∙ c.in-Some-link-at.is in
-    let end : ℕ = c.in-Some-other-end.end in
-    let far : far_end l (get_or roster from.place 0) ≡ Some (end, c.in-Some-other-end.relation) = ap (far_end l) (sym number) ∙ sym c.other-end.ensures ∙ c.in-Some-other-end.is in
-    absurd (end_known g.M.Measure.measure g.met.M.Measure.laws roster (g.S.Store.book s) (g.met.S.Store.sound s) 0 (get_or roster from.place 0) from.class from.cost (λ x y. None) c.args.spot l stands end c.in-Some-other-end.relation far (sym c.place-of.ensures ∙ c.in-default-place-of.is))
+    let number = as_known roster from.place c.in-Some.number c.requires.known (sym c.as_at.ensures ∙ c.in-Some.is) in
+    let l = c.in-Some-link_at.link in
+    let stands : at (g.S.Store.book s) c.args.spot ≡ Some l = sym c.link_at.ensures ∙ c.in-Some-link_at.is in
+    let end : ℕ = c.in-Some-other_end.end in
+    let far : far_end l (get_or roster from.place 0) ≡ Some (end, c.in-Some-other_end.relation) = ap (far_end l) (sym number) ∙ sym c.other_end.ensures ∙ c.in-Some-other_end.is in
+    absurd (end_known g.M.Measure.measure g.met.M.Measure.laws roster (g.S.Store.book s) (g.met.S.Store.sound s) 0 (get_or roster from.place 0) from.class from.cost (λ x y. None) c.args.spot l stands end c.in-Some-other_end.relation far (sym c.place_of.ensures ∙ c.in-default-place_of.is))
 
 pub extend-offer-requires : goal.extend-offer-requires
 extend-offer-requires g c =
@@ -60,10 +60,10 @@ extend-offer-requires g c =
     let from = c.args.from in
     let k : ℕ = c.args.spot in
     let w = c.args.waiting.now in
-    let number = as_known roster from.place c.in-Some.number c.requires.known (sym c.as-at.ensures ∙ c.in-Some.is) in
-    let l = c.in-Some-link-at.link in
-    let far : far_end l (get_or roster from.place 0) ≡ Some (c.in-Some-other-end.end, c.in-Some-other-end.relation) = ap (far_end l) (sym number) ∙ sym c.other-end.ensures ∙ c.in-Some-other-end.is in
-    let o : Over roster book from k = record { known = c.requires.known; link = l; stands = sym c.link-at.ensures ∙ c.in-Some-link-at.is; other = c.in-Some-other-end.end; relation = c.in-Some-other-end.relation; far = far; spot = c.in-Some-place-of.place; here = sym c.place-of.ensures ∙ c.in-Some-place-of.is } in
+    let number = as_known roster from.place c.in-Some.number c.requires.known (sym c.as_at.ensures ∙ c.in-Some.is) in
+    let l = c.in-Some-link_at.link in
+    let far : far_end l (get_or roster from.place 0) ≡ Some (c.in-Some-other_end.end, c.in-Some-other_end.relation) = ap (far_end l) (sym number) ∙ sym c.other_end.ensures ∙ c.in-Some-other_end.is in
+    let o : Over roster book from k = record { known = c.requires.known; link = l; stands = sym c.link_at.ensures ∙ c.in-Some-link_at.is; other = c.in-Some-other_end.end; relation = c.in-Some-other_end.relation; far = far; spot = c.in-Some-place_of.place; here = sym c.place_of.ensures ∙ c.in-Some-place_of.is } in
     let Fresh = Untouched book k (get_or roster from.place 0) in
     let d : ℕ = c.requires.before.0 in
     let q = c.requires.before.1 in
@@ -73,8 +73,8 @@ extend-offer-requires g c =
       limits = (proper_at roster book sound k l o.stands).limits;
     }
 
-pub relax-class-requires : goal.relax-class-requires
-relax-class-requires g c =
+pub relax_class-requires : goal.relax_class-requires
+relax_class-requires g c =
     let m = g.M.Measure.measure in
     let laws = g.met.M.Measure.laws in
     let s = c.args.store.now in
@@ -84,10 +84,10 @@ relax-class-requires g c =
     let from = c.args.from in
     let k : ℕ = c.args.spot in
     let w = c.args.waiting.now in
-    let number = as_known roster from.place c.in-Some.number c.requires.known (sym c.as-at.ensures ∙ c.in-Some.is) in
-    let l = c.in-Some-link-at.link in
-    let far : far_end l (get_or roster from.place 0) ≡ Some (c.in-Some-other-end.end, c.in-Some-other-end.relation) = ap (far_end l) (sym number) ∙ sym c.other-end.ensures ∙ c.in-Some-other-end.is in
-    let o : Over roster book from k = record { known = c.requires.known; link = l; stands = sym c.link-at.ensures ∙ c.in-Some-link-at.is; other = c.in-Some-other-end.end; relation = c.in-Some-other-end.relation; far = far; spot = c.in-Some-place-of.place; here = sym c.place-of.ensures ∙ c.in-Some-place-of.is } in
+    let number = as_known roster from.place c.in-Some.number c.requires.known (sym c.as_at.ensures ∙ c.in-Some.is) in
+    let l = c.in-Some-link_at.link in
+    let far : far_end l (get_or roster from.place 0) ≡ Some (c.in-Some-other_end.end, c.in-Some-other_end.relation) = ap (far_end l) (sym number) ∙ sym c.other_end.ensures ∙ c.in-Some-other_end.is in
+    let o : Over roster book from k = record { known = c.requires.known; link = l; stands = sym c.link_at.ensures ∙ c.in-Some-link_at.is; other = c.in-Some-other_end.end; relation = c.in-Some-other_end.relation; far = far; spot = c.in-Some-place_of.place; here = sym c.place_of.ensures ∙ c.in-Some-place_of.is } in
     let Fresh = Untouched book k (get_or roster from.place 0) in
     let offer = c.extend-offer.result in
     let worth = c.extend-offer.ensures in
@@ -100,8 +100,8 @@ relax-class-requires g c =
       ready = class_ready m laws roster book sound from k o offer worth d q Fresh Home c.args.column.now (held w) (length (memory w)) r (room w) (has_room m.start roster c.args.column.now w r.tidy);
     }
 
-pub relax-class-requires-2 : goal.relax-class-requires-2
-relax-class-requires-2 g c =
+pub relax_class-requires-2 : goal.relax_class-requires-2
+relax_class-requires-2 g c =
     let m = g.M.Measure.measure in
     let laws = g.met.M.Measure.laws in
     let s = c.args.store.now in
@@ -111,19 +111,19 @@ relax-class-requires-2 g c =
     let from = c.args.from in
     let k : ℕ = c.args.spot in
     let w = c.args.waiting.now in
-    let number = as_known roster from.place c.in-Some.number c.requires.known (sym c.as-at.ensures ∙ c.in-Some.is) in
-    let l = c.in-Some-link-at.link in
-    let far : far_end l (get_or roster from.place 0) ≡ Some (c.in-Some-other-end.end, c.in-Some-other-end.relation) = ap (far_end l) (sym number) ∙ sym c.other-end.ensures ∙ c.in-Some-other-end.is in
-    let o : Over roster book from k = record { known = c.requires.known; link = l; stands = sym c.link-at.ensures ∙ c.in-Some-link-at.is; other = c.in-Some-other-end.end; relation = c.in-Some-other-end.relation; far = far; spot = c.in-Some-place-of.place; here = sym c.place-of.ensures ∙ c.in-Some-place-of.is } in
+    let number = as_known roster from.place c.in-Some.number c.requires.known (sym c.as_at.ensures ∙ c.in-Some.is) in
+    let l = c.in-Some-link_at.link in
+    let far : far_end l (get_or roster from.place 0) ≡ Some (c.in-Some-other_end.end, c.in-Some-other_end.relation) = ap (far_end l) (sym number) ∙ sym c.other_end.ensures ∙ c.in-Some-other_end.is in
+    let o : Over roster book from k = record { known = c.requires.known; link = l; stands = sym c.link_at.ensures ∙ c.in-Some-link_at.is; other = c.in-Some-other_end.end; relation = c.in-Some-other_end.relation; far = far; spot = c.in-Some-place_of.place; here = sym c.place_of.ensures ∙ c.in-Some-place_of.is } in
     let Fresh = Untouched book k (get_or roster from.place 0) in
     let offer = c.extend-offer.result in
     let worth = c.extend-offer.ensures in
     let d : ℕ = c.requires.before.0 in
     let q = c.requires.before.1 in
     let r = c.requires.before.2 in
-    let w1 = c.relax-class.new.waiting in
-    let col1 = c.relax-class.new.column in
-    let r1 = class_told m laws roster book sound from k o offer worth d q Fresh Home c.args.column.now (held w) (length (memory w)) r col1 (held w1) (length (memory w1)) c.relax-class.ensures.space c.relax-class.ensures.told in
+    let w1 = c.relax_class.new.waiting in
+    let col1 = c.relax_class.new.column in
+    let r1 = class_told m laws roster book sound from k o offer worth d q Fresh Home c.args.column.now (held w) (length (memory w)) r col1 (held w1) (length (memory w1)) c.relax_class.ensures.space c.relax_class.ensures.told in
     record {
       within = class_inside m laws roster book sound from k o offer worth d q (Less Fresh o.other Home) Outside col1 (held w1) (length (memory w1)) r1;
       few = class_few m laws roster book sound from k o offer worth d q (Less Fresh o.other Home) Outside col1 (held w1) (length (memory w1)) r1;
@@ -141,20 +141,20 @@ returns g c =
     let from = c.args.from in
     let k : ℕ = c.args.spot in
     let w = c.args.waiting.now in
-    let number = as_known roster from.place c.in-Some.number c.requires.known (sym c.as-at.ensures ∙ c.in-Some.is) in
-    let l = c.in-Some-link-at.link in
-    let far : far_end l (get_or roster from.place 0) ≡ Some (c.in-Some-other-end.end, c.in-Some-other-end.relation) = ap (far_end l) (sym number) ∙ sym c.other-end.ensures ∙ c.in-Some-other-end.is in
-    let o : Over roster book from k = record { known = c.requires.known; link = l; stands = sym c.link-at.ensures ∙ c.in-Some-link-at.is; other = c.in-Some-other-end.end; relation = c.in-Some-other-end.relation; far = far; spot = c.in-Some-place-of.place; here = sym c.place-of.ensures ∙ c.in-Some-place-of.is } in
+    let number = as_known roster from.place c.in-Some.number c.requires.known (sym c.as_at.ensures ∙ c.in-Some.is) in
+    let l = c.in-Some-link_at.link in
+    let far : far_end l (get_or roster from.place 0) ≡ Some (c.in-Some-other_end.end, c.in-Some-other_end.relation) = ap (far_end l) (sym number) ∙ sym c.other_end.ensures ∙ c.in-Some-other_end.is in
+    let o : Over roster book from k = record { known = c.requires.known; link = l; stands = sym c.link_at.ensures ∙ c.in-Some-link_at.is; other = c.in-Some-other_end.end; relation = c.in-Some-other_end.relation; far = far; spot = c.in-Some-place_of.place; here = sym c.place_of.ensures ∙ c.in-Some-place_of.is } in
     let Fresh = Untouched book k (get_or roster from.place 0) in
     let offer = c.extend-offer.result in
     let worth = c.extend-offer.ensures in
-    let w1 = c.relax-class.new.waiting in
-    let col1 = c.relax-class.new.column in
-    let w2 = c.relax-class-2.new.waiting in
-    let col2 = c.relax-class-2.new.column in
+    let w1 = c.relax_class.new.waiting in
+    let col1 = c.relax_class.new.column in
+    let w2 = c.relax_class-2.new.waiting in
+    let col2 = c.relax_class-2.new.column in
     record {
       after = λ d q r.
-          let r1 = class_told m laws roster book sound from k o offer worth d q Fresh Home c.args.column.now (held w) (length (memory w)) r col1 (held w1) (length (memory w1)) c.relax-class.ensures.space c.relax-class.ensures.told in
-          let r2 = class_told m laws roster book sound from k o offer worth d q (Less Fresh o.other Home) Outside col1 (held w1) (length (memory w1)) r1 col2 (held w2) (length (memory w2)) c.relax-class-2.ensures.space c.relax-class-2.ensures.told in
+          let r1 = class_told m laws roster book sound from k o offer worth d q Fresh Home c.args.column.now (held w) (length (memory w)) r col1 (held w1) (length (memory w1)) c.relax_class.ensures.space c.relax_class.ensures.told in
+          let r2 = class_told m laws roster book sound from k o offer worth d q (Less Fresh o.other Home) Outside col1 (held w1) (length (memory w1)) r1 col2 (held w2) (length (memory w2)) c.relax_class-2.ensures.space c.relax_class-2.ensures.told in
           both_told m laws roster book sound from k o offer worth d q col2 (held w2) (length (memory w2)) r2;
     }

@@ -3,14 +3,14 @@ use Rattle.waiting.specs.Lists.{held, memory}
 use Rattle.settle.specs.States.{Midway}
 use Rattle.settle.proofs.links.relax_links.Goals as goal
 
-pub relax-link-requires : goal.relax-link-requires
-relax-link-requires g c =
+pub relax_link-requires : goal.relax_link-requires
+relax_link-requires g c =
     let d = c.requires.before.0 in
     let q = c.requires.before.1 in
     record { known = c.requires.known; before = (d, q, c.loop-spot.invariant d q c.requires.before.2) }
 
 pub loop-spot-preserved : goal.loop-spot-preserved
-loop-spot-preserved g c = λ d q r. c.relax-link.ensures.after d q (c.loop-spot.invariant d q r)
+loop-spot-preserved g c = λ d q r. c.relax_link.ensures.after d q (c.loop-spot.invariant d q r)
 
 pub returns : goal.returns
 returns g c =

@@ -6,6 +6,6 @@ use Rattle.settle.proofs.relax.relax_class.Goals as goal
 pub returns-then-eq : goal.returns-then-eq
 returns-then-eq g c =
     let m = g.M.Measure.measure in
-    let permitted = sym c.next-class.ensures ∙ c.in-Some.is ∙ ap Some c.if-eq.ensures in
-    let offered = subst (λ n. Offered m.less m.start c.args.from.place c.args.offer (2 * c.args.spot + n) c.args.column.now c.relax.new.column (held c.args.waiting.now) (held c.relax.new.waiting)) c.class-number.ensures c.relax.ensures.offered in
+    let permitted = sym c.next_class.ensures ∙ c.in-Some.is ∙ ap Some c.if-eq.ensures in
+    let offered = subst (λ n. Offered m.less m.start c.args.from.place c.args.offer (2 * c.args.spot + n) c.args.column.now c.relax.new.column (held c.args.waiting.now) (held c.relax.new.waiting)) c.class_number.ensures c.relax.ensures.offered in
     record { told = inl (permitted, offered); space = c.relax.ensures.space }

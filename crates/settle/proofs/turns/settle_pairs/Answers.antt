@@ -6,8 +6,8 @@ use Rattle.settle.specs.States.{taken_of}
 use Rattle.settle.proofs.Turned.{waits_few, known, begun, more, ended, falls, settled}
 use Rattle.settle.proofs.turns.settle_pairs.Goals as goal
 
-pub pair-of-from-requires : goal.pair-of-from-requires
-pair-of-from-requires g c =
+pub pair_of-from-requires : goal.pair_of-from-requires
+pair_of-from-requires g c =
     let m = g.M.Measure.measure in
     let laws = g.met.M.Measure.laws in
     let s = c.args.store.now in
@@ -23,8 +23,8 @@ pair-of-from-requires g c =
     let r = c.loop-slot.invariant d c.requires.before.1 in
     waits_few m laws roster book sound d column (held w) (length (memory w)) r slot.place slot.cost took.answer.waits
 
-pub relax-links-requires : goal.relax-links-requires
-relax-links-requires g c =
+pub relax_links-requires : goal.relax_links-requires
+relax_links-requires g c =
     let m = g.M.Measure.measure in
     let laws = g.met.M.Measure.laws in
     let s = c.args.store.now in
@@ -36,10 +36,10 @@ relax-links-requires g c =
     let w1 = c.take.new.self in
     let slot = c.in-Some.slot in
     let took : Take m.less (held w) (held w1) (room w) (room w1) (memory w) (memory w1) (Some slot) = c.in-Some.ensures.after in
-    let from = c.pair-of-from.result in
+    let from = c.pair_of-from.result in
     let d : ℕ = c.requires.before.0 in
     let r = c.loop-slot.invariant d c.requires.before.1 in
-    record { known = known m laws roster book sound d column (held w) (length (memory w)) r (held w1) (length (memory w1)) took.long slot took.answer took.held_then from c.pair-of-from.ensures.pair c.pair-of-from.ensures.cost; before = (d, taken_of m roster column (held w1), begun m laws roster book sound d column (held w) (length (memory w)) r (held w1) (length (memory w1)) took.long slot took.answer took.held_then from c.pair-of-from.ensures.pair c.pair-of-from.ensures.cost) }
+    record { known = known m laws roster book sound d column (held w) (length (memory w)) r (held w1) (length (memory w1)) took.long slot took.answer took.held_then from c.pair_of-from.ensures.pair c.pair_of-from.ensures.cost; before = (d, taken_of m roster column (held w1), begun m laws roster book sound d column (held w) (length (memory w)) r (held w1) (length (memory w1)) took.long slot took.answer took.held_then from c.pair_of-from.ensures.pair c.pair_of-from.ensures.cost) }
 
 pub loop-slot-smaller : goal.loop-slot-smaller
 loop-slot-smaller g c =
@@ -54,14 +54,14 @@ loop-slot-smaller g c =
     let w1 = c.take.new.self in
     let slot = c.in-Some.slot in
     let took : Take m.less (held w) (held w1) (room w) (room w1) (memory w) (memory w1) (Some slot) = c.in-Some.ensures.after in
-    let from = c.pair-of-from.result in
+    let from = c.pair_of-from.result in
     let q = taken_of m roster column (held w1) in
-    let column2 = c.relax-links.new.column in
-    let w2 = c.relax-links.new.waiting in
+    let column2 = c.relax_links.new.column in
+    let w2 = c.relax_links.new.waiting in
     let d : ℕ = c.requires.before.0 in
     let r = c.loop-slot.invariant d c.requires.before.1 in
-    let midway = c.relax-links.ensures.after d q (begun m laws roster book sound d column (held w) (length (memory w)) r (held w1) (length (memory w1)) took.long slot took.answer took.held_then from c.pair-of-from.ensures.pair c.pair-of-from.ensures.cost) in
-    falls m laws roster book sound d from q column2 (held w2) (length (memory w2)) midway (size (taken_of m roster column (held w)) roster) (more m laws roster book sound d column (held w) (length (memory w)) r (held w1) (length (memory w1)) took.long slot took.answer took.held_then from c.pair-of-from.ensures.pair c.pair-of-from.ensures.cost)
+    let midway = c.relax_links.ensures.after d q (begun m laws roster book sound d column (held w) (length (memory w)) r (held w1) (length (memory w1)) took.long slot took.answer took.held_then from c.pair_of-from.ensures.pair c.pair_of-from.ensures.cost) in
+    falls m laws roster book sound d from q column2 (held w2) (length (memory w2)) midway (size (taken_of m roster column (held w)) roster) (more m laws roster book sound d column (held w) (length (memory w)) r (held w1) (length (memory w1)) took.long slot took.answer took.held_then from c.pair_of-from.ensures.pair c.pair_of-from.ensures.cost)
 
 pub loop-slot-preserved : goal.loop-slot-preserved
 loop-slot-preserved g c =
@@ -76,13 +76,13 @@ loop-slot-preserved g c =
     let w1 = c.take.new.self in
     let slot = c.in-Some.slot in
     let took : Take m.less (held w) (held w1) (room w) (room w1) (memory w) (memory w1) (Some slot) = c.in-Some.ensures.after in
-    let from = c.pair-of-from.result in
+    let from = c.pair_of-from.result in
     let q = taken_of m roster column (held w1) in
-    let column2 = c.relax-links.new.column in
-    let w2 = c.relax-links.new.waiting in
+    let column2 = c.relax_links.new.column in
+    let w2 = c.relax_links.new.waiting in
     λ d h.
     let r = c.loop-slot.invariant d h in
-    ended m laws roster book sound d from q column2 (held w2) (length (memory w2)) (c.relax-links.ensures.after d q (begun m laws roster book sound d column (held w) (length (memory w)) r (held w1) (length (memory w1)) took.long slot took.answer took.held_then from c.pair-of-from.ensures.pair c.pair-of-from.ensures.cost))
+    ended m laws roster book sound d from q column2 (held w2) (length (memory w2)) (c.relax_links.ensures.after d q (begun m laws roster book sound d column (held w) (length (memory w)) r (held w1) (length (memory w1)) took.long slot took.answer took.held_then from c.pair_of-from.ensures.pair c.pair_of-from.ensures.cost))
 
 pub returns : goal.returns
 returns g c =

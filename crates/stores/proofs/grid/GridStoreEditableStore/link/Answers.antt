@@ -10,49 +10,49 @@ use Rattle.stores.proofs.Refusals.{judged_ok, stopped}
 use Rattle.stores.proofs.Edits.{spot, link_standing, link_full, link_fits, link_made}
 use Rattle.stores.proofs.grid.GridStoreEditableStore.link.Goals as goal
 
-pub returns-in-err-cell : goal.returns-in-err-cell
-returns-in-err-cell c =
+pub returns-in_err-cell : goal.returns-in_err-cell
+returns-in_err-cell c =
     let s = c.args.self.now in
-    let p = err_from_is_err_and c.from-residual.result c.from-residual.ensures.1 in
-    stopped [] (pair_causes (grid_roster s) c.args.first c.args.second []) _ (added (grid_book s) (entered c.args.first c.args.second (relation_of c.args.relation) c.args.figures)) (grid_roster s) (grid_book s) 276 c.in-err-cell.field-0.0
-    (cell_of (grid_roster s) c.args.first c.args.second) c.from-residual.result refl c.in-err-cell.ensures.answer (p.1 ∙ ap Err p.2)
+    let p = err_from_is_err_and c.from_residual.result c.from_residual.ensures.1 in
+    stopped [] (pair_causes (grid_roster s) c.args.first c.args.second []) _ (added (grid_book s) (entered c.args.first c.args.second (relation_of c.args.relation) c.args.figures)) (grid_roster s) (grid_book s) 276 c.in_err-cell.field-0.0
+    (cell_of (grid_roster s) c.args.first c.args.second) c.from_residual.result refl c.in_err-cell.ensures.answer (p.1 ∙ ap Err p.2)
 
-pub returns-in-err-check-figures : goal.returns-in-err-check-figures
-returns-in-err-check-figures c =
+pub returns-in_err-check_figures : goal.returns-in_err-check_figures
+returns-in_err-check_figures c =
     let s = c.args.self.now in
     let roster = grid_roster s in
     let named = relation_causes c.args.relation in
-    let p = err_from_is_err_and c.from-residual-in-err-check-figures.result c.from-residual-in-err-check-figures.ensures.1 in
-    let pair = (spot s c.args.first c.args.second c.in-ok-cell.cell c.in-ok-cell.ensures.answer).passed in
-    let relation = (judged_ok (first_cause named) c.in-ok-relation.relation (relation_of c.args.relation) c.in-ok-relation.ensures).0 in
-    stopped (pair_causes roster c.args.first c.args.second [] ++ named) (figures_causes c.args.figures []) _ (added (grid_book s) (entered c.args.first c.args.second (relation_of c.args.relation) c.args.figures)) roster (grid_book s) 276 c.in-err-check-figures.field-0.0
-    tt c.from-residual-in-err-check-figures.result (causes_pass (pair_causes roster c.args.first c.args.second []) named pair ∙ relation) c.in-err-check-figures.ensures (p.1 ∙ ap Err p.2)
+    let p = err_from_is_err_and c.from_residual-in_err-check_figures.result c.from_residual-in_err-check_figures.ensures.1 in
+    let pair = (spot s c.args.first c.args.second c.in_ok-cell.cell c.in_ok-cell.ensures.answer).passed in
+    let relation = (judged_ok (first_cause named) c.in_ok-relation.relation (relation_of c.args.relation) c.in_ok-relation.ensures).0 in
+    stopped (pair_causes roster c.args.first c.args.second [] ++ named) (figures_causes c.args.figures []) _ (added (grid_book s) (entered c.args.first c.args.second (relation_of c.args.relation) c.args.figures)) roster (grid_book s) 276 c.in_err-check_figures.field-0.0
+    tt c.from_residual-in_err-check_figures.result (causes_pass (pair_causes roster c.args.first c.args.second []) named pair ∙ relation) c.in_err-check_figures.ensures (p.1 ∙ ap Err p.2)
 
-pub returns-then-is-some : goal.returns-then-is-some
-returns-then-is-some c =
+pub returns-then-is_some : goal.returns-then-is_some
+returns-then-is_some c =
     let s = c.args.self.now in
-    let here = spot s c.args.first c.args.second c.in-ok-cell.cell c.in-ok-cell.ensures.answer in
-    link_standing s c.args.first c.args.second c.in-ok-cell.cell here c.args.figures c.in-ok-check-figures.field-0 c.in-ok-check-figures.ensures c.args.relation c.in-ok-relation.relation c.in-ok-relation.ensures
-    (sym c.if-is-some.ensures)
+    let here = spot s c.args.first c.args.second c.in_ok-cell.cell c.in_ok-cell.ensures.answer in
+    link_standing s c.args.first c.args.second c.in_ok-cell.cell here c.args.figures c.in_ok-check_figures.field-0 c.in_ok-check_figures.ensures c.args.relation c.in_ok-relation.relation c.in_ok-relation.ensures
+    (sym c.if-is_some.ensures)
 
-pub returns-then-link-count-eq-MOST-LINKS : goal.returns-then-link-count-eq-MOST-LINKS
-returns-then-link-count-eq-MOST-LINKS c =
+pub returns-then-link_count-eq-MOST_LINKS : goal.returns-then-link_count-eq-MOST_LINKS
+returns-then-link_count-eq-MOST_LINKS c =
     let s = c.args.self.now in
-    let here = spot s c.args.first c.args.second c.in-ok-cell.cell c.in-ok-cell.ensures.answer in
-    link_full s c.args.first c.args.second c.in-ok-cell.cell here c.args.figures c.in-ok-check-figures.field-0 c.in-ok-check-figures.ensures c.args.relation c.in-ok-relation.relation c.in-ok-relation.ensures
-    (sym c.if-is-some.ensures) (sym c.link-count.ensures ∙ c.if-link-count-eq-MOST-LINKS.true)
+    let here = spot s c.args.first c.args.second c.in_ok-cell.cell c.in_ok-cell.ensures.answer in
+    link_full s c.args.first c.args.second c.in_ok-cell.cell here c.args.figures c.in_ok-check_figures.field-0 c.in_ok-check_figures.ensures c.args.relation c.in_ok-relation.relation c.in_ok-relation.ensures
+    (sym c.if-is_some.ensures) (sym c.link_count.ensures ∙ c.if-link_count-eq-MOST_LINKS.true)
 
 pub put-requires : goal.put-requires
 put-requires c =
     let s = c.args.self.now in
-    let here = spot s c.args.first c.args.second c.in-ok-cell.cell c.in-ok-cell.ensures.answer in
-    let fits = link_fits s c.args.first c.args.second c.in-ok-cell.cell here c.args.figures c.in-ok-check-figures.field-0 c.in-ok-check-figures.ensures c.args.relation c.in-ok-relation.relation c.in-ok-relation.ensures in
-    (c.in-ok-cell.ensures.within, subst (λ l. fit (grid_roster s) c.in-ok-cell.cell (Some l ∷ []) ≡ true) (sym c.entered.ensures) fits)
+    let here = spot s c.args.first c.args.second c.in_ok-cell.cell c.in_ok-cell.ensures.answer in
+    let fits = link_fits s c.args.first c.args.second c.in_ok-cell.cell here c.args.figures c.in_ok-check_figures.field-0 c.in_ok-check_figures.ensures c.args.relation c.in_ok-relation.relation c.in_ok-relation.ensures in
+    (c.in_ok-cell.ensures.within, subst (λ l. fit (grid_roster s) c.in_ok-cell.cell (Some l ∷ []) ≡ true) (sym c.entered.ensures) fits)
 
 pub returns : goal.returns
 returns c =
     let s = c.args.self.now in
-    let here = spot s c.args.first c.args.second c.in-ok-cell.cell c.in-ok-cell.ensures.answer in
-    link_made s c.args.first c.args.second c.in-ok-cell.cell here c.args.figures c.in-ok-check-figures.field-0 c.in-ok-check-figures.ensures c.args.relation c.in-ok-relation.relation c.in-ok-relation.ensures
-    (sym c.if-is-some.ensures) (grid_roster c.put.new.self) c.put.new.self.cells (λ e. c.if-link-count-eq-MOST-LINKS.false (c.link-count.ensures ∙ e)) c.put.ensures.roster
-    (c.put.ensures.cells ∙ ap (λ l. set s.cells c.in-ok-cell.cell (Some l)) c.entered.ensures)
+    let here = spot s c.args.first c.args.second c.in_ok-cell.cell c.in_ok-cell.ensures.answer in
+    link_made s c.args.first c.args.second c.in_ok-cell.cell here c.args.figures c.in_ok-check_figures.field-0 c.in_ok-check_figures.ensures c.args.relation c.in_ok-relation.relation c.in_ok-relation.ensures
+    (sym c.if-is_some.ensures) (grid_roster c.put.new.self) c.put.new.self.cells (λ e. c.if-link_count-eq-MOST_LINKS.false (c.link_count.ensures ∙ e)) c.put.ensures.roster
+    (c.put.ensures.cells ∙ ap (λ l. set s.cells c.in_ok-cell.cell (Some l)) c.entered.ensures)

@@ -14,7 +14,7 @@ returns-then-left-tally c =
     let tally = c.args.self.now.tallied i c.loop-row-test.true in
     let short : left < length (filled (row i cells)) = omega arith in
     let wide : (24 * i + 24) - 24 * i ≡ 24 = omega arith in
-    c.link-in.ensures ∙
+    c.link_in.ensures ∙
     ap (λ n. at (filled (take n (drop (24 * i) cells))) left) wide ∙
     sym (at_front (filled (row i cells)) (filled (drop (24 * (i + 1)) cells)) left short) ∙
     sym (ap (λ b. at b left) (row_split cells i)) ∙

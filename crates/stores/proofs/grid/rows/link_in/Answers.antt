@@ -13,7 +13,7 @@ at_rest x xs (suc k) h = let e : k ≡ suc k - 1 = omega arith in ap (at xs) e
 pub returns-then-left-eq0 : goal.returns-then-left-eq0
 returns-then-left-eq0 c =
     let cells = c.args.cells.now in
-    let i = c.loop-cell.cell-index in
+    let i = c.loop-cell.cell_index in
     let l = c.in-Some.link in
     let within : i < length cells = omega arith in
     let step = filled_drop cells i (Some l) within c.in-Some.is in
@@ -22,7 +22,7 @@ returns-then-left-eq0 c =
 pub loop-cell-preserved : goal.loop-cell-preserved
 loop-cell-preserved c =
     let cells = c.args.cells.now in
-    let i = c.loop-cell.cell-index in
+    let i = c.loop-cell.cell_index in
     let left = c.loop-cell.left in
     let rest = filled (drop (i + 1) cells) in
     let within : i < length cells = omega arith in
@@ -37,5 +37,5 @@ loop-cell-preserved c =
 pub returns : goal.returns
 returns c =
     let cells = c.args.cells.now in
-    let past = at_drop_all (λ cs. at (filled cs) c.loop-cell.left) cells c.loop-cell.cell-index (omega arith) in
+    let past = at_drop_all (λ cs. at (filled cs) c.loop-cell.left) cells c.loop-cell.cell_index (omega arith) in
     sym past ∙ c.loop-cell.invariant

@@ -13,41 +13,41 @@ use Rattle.stores.proofs.Refusals.{judged_ok, stopped}
 use Rattle.stores.proofs.RowEdits.{pair_pass, link_twice, link_full, row_left, link_done}
 use Rattle.stores.proofs.rows.RowStoreEditableStore.link.Goals as goal
 
-pub returns-in-err-check-pair : goal.returns-in-err-check-pair
-returns-in-err-check-pair c =
+pub returns-in_err-check_pair : goal.returns-in_err-check_pair
+returns-in_err-check_pair c =
     let s = c.args.self.now in
     let a = c.args.first in
     let b = c.args.second in
-    let p = err_from_is_err_and c.from-residual.result c.from-residual.ensures.1 in
+    let p = err_from_is_err_and c.from_residual.result c.from_residual.ensures.1 in
     record {
-      edit = stopped [] (pair_causes (row_roster s) a b []) _ (added (row_book s) (entered a b (relation_of c.args.relation) c.args.figures)) (row_roster s) (row_book s) (row_limit s) c.in-err-check-pair.field-0.0 tt c.from-residual.result refl c.in-err-check-pair.ensures (p.1 ∙ ap Err p.2);
+      edit = stopped [] (pair_causes (row_roster s) a b []) _ (added (row_book s) (entered a b (relation_of c.args.relation) c.args.figures)) (row_roster s) (row_book s) (row_limit s) c.in_err-check_pair.field-0.0 tt c.from_residual.result refl c.in_err-check_pair.ensures (p.1 ∙ ap Err p.2);
       memory = kept_front s.rows.now s.used s.room;
       same = refl;
     }
 
-pub returns-in-err-relation : goal.returns-in-err-relation
-returns-in-err-relation c =
+pub returns-in_err-relation : goal.returns-in_err-relation
+returns-in_err-relation c =
     let s = c.args.self.now in
     let a = c.args.first in
     let b = c.args.second in
-    let p = err_from_is_err_and c.from-residual-in-err-relation.result c.from-residual-in-err-relation.ensures.1 in
+    let p = err_from_is_err_and c.from_residual-in_err-relation.result c.from_residual-in_err-relation.ensures.1 in
     record {
-      edit = stopped (pair_causes (row_roster s) a b []) (relation_causes c.args.relation) _ (added (row_book s) (entered a b (relation_of c.args.relation) c.args.figures)) (row_roster s) (row_book s) (row_limit s) c.in-err-relation.field-0.0 (relation_of c.args.relation) c.from-residual-in-err-relation.result (pair_pass s a b c.in-ok-check-pair.field-0 c.in-ok-check-pair.ensures) c.in-err-relation.ensures (p.1 ∙ ap Err p.2);
+      edit = stopped (pair_causes (row_roster s) a b []) (relation_causes c.args.relation) _ (added (row_book s) (entered a b (relation_of c.args.relation) c.args.figures)) (row_roster s) (row_book s) (row_limit s) c.in_err-relation.field-0.0 (relation_of c.args.relation) c.from_residual-in_err-relation.result (pair_pass s a b c.in_ok-check_pair.field-0 c.in_ok-check_pair.ensures) c.in_err-relation.ensures (p.1 ∙ ap Err p.2);
       memory = kept_front s.rows.now s.used s.room;
       same = refl;
     }
 
-pub returns-in-err-check-figures : goal.returns-in-err-check-figures
-returns-in-err-check-figures c =
+pub returns-in_err-check_figures : goal.returns-in_err-check_figures
+returns-in_err-check_figures c =
     let s = c.args.self.now in
     let a = c.args.first in
     let b = c.args.second in
     let named = relation_causes c.args.relation in
-    let p = err_from_is_err_and c.from-residual-in-err-check-figures.result c.from-residual-in-err-check-figures.ensures.1 in
-    let pair = pair_pass s a b c.in-ok-check-pair.field-0 c.in-ok-check-pair.ensures in
-    let relation = (judged_ok (first_cause named) c.in-ok-relation.relation (relation_of c.args.relation) c.in-ok-relation.ensures).0 in
+    let p = err_from_is_err_and c.from_residual-in_err-check_figures.result c.from_residual-in_err-check_figures.ensures.1 in
+    let pair = pair_pass s a b c.in_ok-check_pair.field-0 c.in_ok-check_pair.ensures in
+    let relation = (judged_ok (first_cause named) c.in_ok-relation.relation (relation_of c.args.relation) c.in_ok-relation.ensures).0 in
     record {
-      edit = stopped (pair_causes (row_roster s) a b [] ++ named) (figures_causes c.args.figures []) _ (added (row_book s) (entered a b (relation_of c.args.relation) c.args.figures)) (row_roster s) (row_book s) (row_limit s) c.in-err-check-figures.field-0.0 tt c.from-residual-in-err-check-figures.result (causes_pass (pair_causes (row_roster s) a b []) named pair ∙ relation) c.in-err-check-figures.ensures (p.1 ∙ ap Err p.2);
+      edit = stopped (pair_causes (row_roster s) a b [] ++ named) (figures_causes c.args.figures []) _ (added (row_book s) (entered a b (relation_of c.args.relation) c.args.figures)) (row_roster s) (row_book s) (row_limit s) c.in_err-check_figures.field-0.0 tt c.from_residual-in_err-check_figures.result (causes_pass (pair_causes (row_roster s) a b []) named pair ∙ relation) c.in_err-check_figures.ensures (p.1 ∙ ap Err p.2);
       memory = kept_front s.rows.now s.used s.room;
       same = refl;
     }
@@ -56,40 +56,40 @@ pub returns-in-default : goal.returns-in-default
 returns-in-default c =
     let s = c.args.self.now in
     record {
-      edit = link_twice s c.args.first c.args.second c.in-ok-check-pair.field-0 c.in-ok-check-pair.ensures c.args.figures c.in-ok-check-figures.field-0 c.in-ok-check-figures.ensures c.args.relation c.in-ok-relation.relation c.in-ok-relation.ensures c.in-default.field-0 c.in-default.ensures;
+      edit = link_twice s c.args.first c.args.second c.in_ok-check_pair.field-0 c.in_ok-check_pair.ensures c.args.figures c.in_ok-check_figures.field-0 c.in_ok-check_figures.ensures c.args.relation c.in_ok-relation.relation c.in_ok-relation.ensures c.in-default.field-0 c.in-default.ensures;
       memory = kept_front s.rows.now s.used s.room;
       same = refl;
     }
 
-pub returns-then-self-link-limit : goal.returns-then-self-link-limit
-returns-then-self-link-limit c =
+pub returns-then-self-link_limit : goal.returns-then-self-link_limit
+returns-then-self-link_limit c =
     let s = c.args.self.now in
     record {
-      edit = link_full s c.args.first c.args.second c.in-ok-check-pair.field-0 c.in-ok-check-pair.ensures c.args.figures c.in-ok-check-figures.field-0 c.in-ok-check-figures.ensures c.args.relation c.in-ok-relation.relation c.in-ok-relation.ensures c.in-Err.row c.in-Err.ensures (c.if-self-link-limit.true ∙ c.link-limit.ensures);
+      edit = link_full s c.args.first c.args.second c.in_ok-check_pair.field-0 c.in_ok-check_pair.ensures c.args.figures c.in_ok-check_figures.field-0 c.in_ok-check_figures.ensures c.args.relation c.in_ok-relation.relation c.in_ok-relation.ensures c.in-Err.row c.in-Err.ensures (c.if-self-link_limit.true ∙ c.link_limit.ensures);
       memory = kept_front s.rows.now s.used s.room;
       same = refl;
     }
 
-pub insert-row-requires : goal.insert-row-requires
-insert-row-requires c =
+pub insert_row-requires : goal.insert_row-requires
+insert_row-requires c =
     let s = c.args.self.now in
-    let free : s.used ≢ row_limit s = λ e. c.if-self-link-limit.false (e ∙ sym c.link-limit.ensures) in
+    let free : s.used ≢ row_limit s = λ e. c.if-self-link_limit.false (e ∙ sym c.link_limit.ensures) in
     (row_room s c.args.first c.args.second c.in-Err.row c.in-Err.ensures, (row_left s free).0)
 
 pub invariant-of-self : goal.invariant-of-self
 invariant-of-self c =
     let s = c.args.self.now in
-    let free : s.used ≢ row_limit s = λ e. c.if-self-link-limit.false (e ∙ sym c.link-limit.ensures) in
-    let moved = c.insert-row.ensures ∙ ap (λ l. memory_with (insert (row_book s) c.in-Err.row l) s.rows.now) c.entered.ensures in
+    let free : s.used ≢ row_limit s = λ e. c.if-self-link_limit.false (e ∙ sym c.link_limit.ensures) in
+    let moved = c.insert_row.ensures ∙ ap (λ l. memory_with (insert (row_book s) c.in-Err.row l) s.rows.now) c.entered.ensures in
     let room = row_left s free in
-    let done = link_done s c.args.first c.args.second c.in-ok-check-pair.field-0 c.in-ok-check-pair.ensures c.args.figures c.in-ok-check-figures.field-0 c.in-ok-check-figures.ensures c.args.relation c.in-ok-relation.relation c.in-ok-relation.ensures c.in-Err.row c.in-Err.ensures free c.insert-row.new.rows moved in
+    let done = link_done s c.args.first c.args.second c.in_ok-check_pair.field-0 c.in_ok-check_pair.ensures c.args.figures c.in_ok-check_figures.field-0 c.in_ok-check_figures.ensures c.args.relation c.in_ok-relation.relation c.in_ok-relation.ensures c.in-Err.row c.in-Err.ensures free c.insert_row.new.rows moved in
     let long = done.long in
     (s.few, (s.rising, (omega arith, (omega arith, (done.sorted, tt)))))
 
 pub returns : goal.returns
 returns c =
     let s = c.args.self.now in
-    let free : s.used ≢ row_limit s = λ e. c.if-self-link-limit.false (e ∙ sym c.link-limit.ensures) in
-    let moved = c.insert-row.ensures ∙ ap (λ l. memory_with (insert (row_book s) c.in-Err.row l) s.rows.now) c.entered.ensures in
-    let done = link_done s c.args.first c.args.second c.in-ok-check-pair.field-0 c.in-ok-check-pair.ensures c.args.figures c.in-ok-check-figures.field-0 c.in-ok-check-figures.ensures c.args.relation c.in-ok-relation.relation c.in-ok-relation.ensures c.in-Err.row c.in-Err.ensures free c.insert-row.new.rows moved in
+    let free : s.used ≢ row_limit s = λ e. c.if-self-link_limit.false (e ∙ sym c.link_limit.ensures) in
+    let moved = c.insert_row.ensures ∙ ap (λ l. memory_with (insert (row_book s) c.in-Err.row l) s.rows.now) c.entered.ensures in
+    let done = link_done s c.args.first c.args.second c.in_ok-check_pair.field-0 c.in_ok-check_pair.ensures c.args.figures c.in_ok-check_figures.field-0 c.in_ok-check_figures.ensures c.args.relation c.in_ok-relation.relation c.in_ok-relation.ensures c.in-Err.row c.in-Err.ensures free c.insert_row.new.rows moved in
     record { edit = done.edit; memory = done.memory; same = refl }

@@ -10,26 +10,26 @@ use Rattle.stores.proofs.Refusals.{stopped}
 use Rattle.stores.proofs.RowEdits.{pair_pass, recost_missing, recost_done}
 use Rattle.stores.proofs.rows.RowStoreEditableStore.recost.Goals as goal
 
-pub returns-in-err-check-pair : goal.returns-in-err-check-pair
-returns-in-err-check-pair c =
+pub returns-in_err-check_pair : goal.returns-in_err-check_pair
+returns-in_err-check_pair c =
     let s = c.args.self.now in
     let a = c.args.first in
     let b = c.args.second in
-    let p = err_from_is_err_and c.from-residual.result c.from-residual.ensures.1 in
+    let p = err_from_is_err_and c.from_residual.result c.from_residual.ensures.1 in
     record {
-      edit = stopped [] (pair_causes (row_roster s) a b []) _ (recosted (row_book s) (min a b) (max a b) c.args.figures) (row_roster s) (row_book s) (row_limit s) c.in-err-check-pair.field-0.0 tt c.from-residual.result refl c.in-err-check-pair.ensures (p.1 ∙ ap Err p.2);
+      edit = stopped [] (pair_causes (row_roster s) a b []) _ (recosted (row_book s) (min a b) (max a b) c.args.figures) (row_roster s) (row_book s) (row_limit s) c.in_err-check_pair.field-0.0 tt c.from_residual.result refl c.in_err-check_pair.ensures (p.1 ∙ ap Err p.2);
       memory = kept_front s.rows.now s.used s.room;
       same = refl;
     }
 
-pub returns-in-err-check-figures : goal.returns-in-err-check-figures
-returns-in-err-check-figures c =
+pub returns-in_err-check_figures : goal.returns-in_err-check_figures
+returns-in_err-check_figures c =
     let s = c.args.self.now in
     let a = c.args.first in
     let b = c.args.second in
-    let p = err_from_is_err_and c.from-residual-in-err-check-figures.result c.from-residual-in-err-check-figures.ensures.1 in
+    let p = err_from_is_err_and c.from_residual-in_err-check_figures.result c.from_residual-in_err-check_figures.ensures.1 in
     record {
-      edit = stopped (pair_causes (row_roster s) a b []) (figures_causes c.args.figures []) _ (recosted (row_book s) (min a b) (max a b) c.args.figures) (row_roster s) (row_book s) (row_limit s) c.in-err-check-figures.field-0.0 tt c.from-residual-in-err-check-figures.result (pair_pass s a b c.in-ok-check-pair.field-0 c.in-ok-check-pair.ensures) c.in-err-check-figures.ensures (p.1 ∙ ap Err p.2);
+      edit = stopped (pair_causes (row_roster s) a b []) (figures_causes c.args.figures []) _ (recosted (row_book s) (min a b) (max a b) c.args.figures) (row_roster s) (row_book s) (row_limit s) c.in_err-check_figures.field-0.0 tt c.from_residual-in_err-check_figures.result (pair_pass s a b c.in_ok-check_pair.field-0 c.in_ok-check_pair.ensures) c.in_err-check_figures.ensures (p.1 ∙ ap Err p.2);
       memory = kept_front s.rows.now s.used s.room;
       same = refl;
     }
@@ -38,7 +38,7 @@ pub returns-in-default : goal.returns-in-default
 returns-in-default c =
     let s = c.args.self.now in
     record {
-      edit = recost_missing s c.args.first c.args.second c.in-ok-check-pair.field-0 c.in-ok-check-pair.ensures c.args.figures c.in-ok-check-figures.field-0 c.in-ok-check-figures.ensures c.in-default.field-0 c.in-default.ensures;
+      edit = recost_missing s c.args.first c.args.second c.in_ok-check_pair.field-0 c.in_ok-check_pair.ensures c.args.figures c.in_ok-check_figures.field-0 c.in_ok-check_figures.ensures c.in-default.field-0 c.in-default.ensures;
       memory = kept_front s.rows.now s.used s.room;
       same = refl;
     }
@@ -52,12 +52,12 @@ offset-bounds-self-row c = let h = row_used c.args.self.now c.args.first c.args.
 pub invariant-of-self : goal.invariant-of-self
 invariant-of-self c =
     let s = c.args.self.now in
-    let done = recost_done s c.args.first c.args.second c.in-ok-check-pair.field-0 c.in-ok-check-pair.ensures c.args.figures c.in-ok-check-figures.field-0 c.in-ok-check-figures.ensures c.in-Ok.row _ c.in-Ok.ensures in
+    let done = recost_done s c.args.first c.args.second c.in_ok-check_pair.field-0 c.in_ok-check_pair.ensures c.args.figures c.in_ok-check_figures.field-0 c.in_ok-check_figures.ensures c.in-Ok.row _ c.in-Ok.ensures in
     let room = s.room in
     (s.few, (s.rising, (simp length-set room, (s.limited, (done.sorted, tt)))))
 
 pub returns : goal.returns
 returns c =
     let s = c.args.self.now in
-    let done = recost_done s c.args.first c.args.second c.in-ok-check-pair.field-0 c.in-ok-check-pair.ensures c.args.figures c.in-ok-check-figures.field-0 c.in-ok-check-figures.ensures c.in-Ok.row _ c.in-Ok.ensures in
+    let done = recost_done s c.args.first c.args.second c.in_ok-check_pair.field-0 c.in_ok-check_pair.ensures c.args.figures c.in_ok-check_figures.field-0 c.in_ok-check_figures.ensures c.in-Ok.row _ c.in-Ok.ensures in
     record { edit = done.edit; memory = done.memory; same = refl }

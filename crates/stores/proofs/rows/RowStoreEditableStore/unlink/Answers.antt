@@ -9,14 +9,14 @@ use Rattle.stores.proofs.Refusals.{stopped}
 use Rattle.stores.proofs.RowEdits.{unlink_missing, unlink_done}
 use Rattle.stores.proofs.rows.RowStoreEditableStore.unlink.Goals as goal
 
-pub returns-in-err-check-pair : goal.returns-in-err-check-pair
-returns-in-err-check-pair c =
+pub returns-in_err-check_pair : goal.returns-in_err-check_pair
+returns-in_err-check_pair c =
     let s = c.args.self.now in
     let a = c.args.first in
     let b = c.args.second in
-    let p = err_from_is_err_and c.from-residual.result c.from-residual.ensures.1 in
+    let p = err_from_is_err_and c.from_residual.result c.from_residual.ensures.1 in
     record {
-      edit = stopped [] (pair_causes (row_roster s) a b []) _ (without (row_book s) (min a b) (max a b)) (row_roster s) (row_book s) (row_limit s) c.in-err-check-pair.field-0.0 tt c.from-residual.result refl c.in-err-check-pair.ensures (p.1 ∙ ap Err p.2);
+      edit = stopped [] (pair_causes (row_roster s) a b []) _ (without (row_book s) (min a b) (max a b)) (row_roster s) (row_book s) (row_limit s) c.in_err-check_pair.field-0.0 tt c.from_residual.result refl c.in_err-check_pair.ensures (p.1 ∙ ap Err p.2);
       memory = kept_front s.rows.now s.used s.room;
       same = refl;
     }
@@ -25,13 +25,13 @@ pub returns-in-default : goal.returns-in-default
 returns-in-default c =
     let s = c.args.self.now in
     record {
-      edit = unlink_missing s c.args.first c.args.second c.in-ok-check-pair.field-0 c.in-ok-check-pair.ensures c.in-default.field-0 c.in-default.ensures;
+      edit = unlink_missing s c.args.first c.args.second c.in_ok-check_pair.field-0 c.in_ok-check_pair.ensures c.in-default.field-0 c.in-default.ensures;
       memory = kept_front s.rows.now s.used s.room;
       same = refl;
     }
 
-pub remove-row-requires : goal.remove-row-requires
-remove-row-requires c =
+pub remove_row-requires : goal.remove_row-requires
+remove_row-requires c =
     let s = c.args.self.now in
     (row_used s c.args.first c.args.second c.in-Ok.row c.in-Ok.ensures, s.room)
 
@@ -43,7 +43,7 @@ invariant-of-self c =
     let s = c.args.self.now in
     let h = row_used s c.args.first c.args.second c.in-Ok.row c.in-Ok.ensures in
     let fewer : s.used - 1 + 1 ≡ s.used = omega arith in
-    let done = unlink_done s c.args.first c.args.second c.in-ok-check-pair.field-0 c.in-ok-check-pair.ensures c.in-Ok.row c.in-Ok.ensures c.remove-row.new.rows (s.used - 1) fewer c.remove-row.ensures in
+    let done = unlink_done s c.args.first c.args.second c.in_ok-check_pair.field-0 c.in_ok-check_pair.ensures c.in-Ok.row c.in-Ok.ensures c.remove_row.new.rows (s.used - 1) fewer c.remove_row.ensures in
     let long = done.long in
     let room = s.room in
     let limited = s.limited in
@@ -54,5 +54,5 @@ returns c =
     let s = c.args.self.now in
     let h = row_used s c.args.first c.args.second c.in-Ok.row c.in-Ok.ensures in
     let fewer : s.used - 1 + 1 ≡ s.used = omega arith in
-    let done = unlink_done s c.args.first c.args.second c.in-ok-check-pair.field-0 c.in-ok-check-pair.ensures c.in-Ok.row c.in-Ok.ensures c.remove-row.new.rows (s.used - 1) fewer c.remove-row.ensures in
+    let done = unlink_done s c.args.first c.args.second c.in_ok-check_pair.field-0 c.in_ok-check_pair.ensures c.in-Ok.row c.in-Ok.ensures c.remove_row.new.rows (s.used - 1) fewer c.remove_row.ensures in
     record { edit = done.edit; memory = done.memory; same = refl }

@@ -6,13 +6,13 @@ pub returns-then-joins : goal.returns-then-joins
 returns-then-joins c =
     sym (row_here c.args.low c.args.high c.args.rows.now c.loop-row.row _ c.loop-row-test.true (sym c.if-joins.ensures)) ∙ c.loop-row.invariant
 
-pub returns-then-is-less : goal.returns-then-is-less
-returns-then-is-less c =
-    sym (row_past c.args.low c.args.high c.args.rows.now c.loop-row.row _ c.loop-row-test.true (sym c.if-joins.ensures) (sym c.if-is-less.ensures)) ∙ c.loop-row.invariant
+pub returns-then-is_less : goal.returns-then-is_less
+returns-then-is_less c =
+    sym (row_past c.args.low c.args.high c.args.rows.now c.loop-row.row _ c.loop-row-test.true (sym c.if-joins.ensures) (sym c.if-is_less.ensures)) ∙ c.loop-row.invariant
 
 pub loop-row-preserved : goal.loop-row-preserved
 loop-row-preserved c =
-    row_next c.args.low c.args.high c.args.rows.now c.loop-row.row _ c.loop-row-test.true (sym c.if-joins.ensures) (sym c.if-is-less.ensures) ∙ c.loop-row.invariant
+    row_next c.args.low c.args.high c.args.rows.now c.loop-row.row _ c.loop-row-test.true (sym c.if-joins.ensures) (sym c.if-is_less.ensures) ∙ c.loop-row.invariant
 
 pub returns : goal.returns
 returns c =

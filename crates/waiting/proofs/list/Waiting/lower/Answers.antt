@@ -4,4 +4,4 @@ use Rattle.waiting.proofs.list.Waiting.lower.Goals as goal
 
 pub returns : goal.returns
 unfolding held room
-returns g c = record { after = c.lower-in.ensures.after; lent = refl }
+returns g c = record { after = c.lower_in.ensures.after; lent = refl }

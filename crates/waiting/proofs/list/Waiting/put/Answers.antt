@@ -4,4 +4,4 @@ use Rattle.waiting.proofs.list.Waiting.put.Goals as goal
 
 pub returns : goal.returns
 unfolding held room
-returns g c = record { after = c.put-into.ensures.after; lent = refl }
+returns g c = record { after = c.put_into.ensures.after; lent = refl }

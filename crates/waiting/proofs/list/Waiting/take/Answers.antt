@@ -4,4 +4,4 @@ use Rattle.waiting.proofs.list.Waiting.take.Goals as goal
 
 pub returns : goal.returns
 unfolding held room
-returns g c = record { after = c.take-from.ensures.after; lent = refl }
+returns g c = record { after = c.take_from.ensures.after; lent = refl }

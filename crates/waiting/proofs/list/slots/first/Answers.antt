@@ -4,7 +4,7 @@ use Rattle.std.proofs.lemmas.List.MinMax.{IsFirstBest-takes, IsFirstBest-keeps}
 use Rattle.waiting.specs.Slots.{sooner}
 use Rattle.waiting.proofs.Sooner.{ranks}
 use Rattle.waiting.proofs.list.slots.first.Goals as goal
-use Rattle.waiting.proofs.list.slots.first.Goals.{then-is-sooner, else-is-sooner}
+use Rattle.waiting.proofs.list.slots.first.Goals.{then-is_sooner, else-is_sooner}
 
 pub loop-i-preserved : goal.loop-i-preserved
 loop-i-preserved g c =
@@ -15,8 +15,8 @@ loop-i-preserved g c =
     let x = c.index-slots-i.result in
     let y = c.index-slots-best.result in (
       omega arith,
-      elim c.if-is-sooner.branch [
-        | then-is-sooner w ↦ subst (IsFirstBest (sooner g.M.Measure.measure.less) xs (i + 1)) (sym w.best-is) (IsFirstBest-takes o xs i c.loop-i.best x y c.loop-i.invariant.1 (omega arith) c.index-slots-i.is c.index-slots-best.is (sym w.if-is-sooner.ensures))
-        | else-is-sooner w ↦ subst (IsFirstBest (sooner g.M.Measure.measure.less) xs (i + 1)) (sym w.best-is) (IsFirstBest-keeps o xs i c.loop-i.best x y c.loop-i.invariant.1 (omega arith) c.index-slots-i.is c.index-slots-best.is (sym w.if-is-sooner.ensures))
+      elim c.if-is_sooner.branch [
+        | then-is_sooner w ↦ subst (IsFirstBest (sooner g.M.Measure.measure.less) xs (i + 1)) (sym w.best-is) (IsFirstBest-takes o xs i c.loop-i.best x y c.loop-i.invariant.1 (omega arith) c.index-slots-i.is c.index-slots-best.is (sym w.if-is_sooner.ensures))
+        | else-is_sooner w ↦ subst (IsFirstBest (sooner g.M.Measure.measure.less) xs (i + 1)) (sym w.best-is) (IsFirstBest-keeps o xs i c.loop-i.best x y c.loop-i.invariant.1 (omega arith) c.index-slots-i.is c.index-slots-best.is (sym w.if-is_sooner.ensures))
       ],
     )

@@ -13,19 +13,19 @@ copied numbers roster i h k e =
 
 pub loop-i-preserved : goal.loop-i-preserved
 loop-i-preserved c =
-    let roster = c.roster-of-roster.result.now in
+    let roster = c.roster_of-roster.result.now in
     let numbers = c.loop-i.numbers in
     let i = c.loop-i.i in
     let inv = c.loop-i.invariant in
-    let few : length roster ≤ 24 = subst (λ xs. length xs ≤ 24) (sym c.roster-of-roster.ensures) (from_few 24 c.args.ases.now) in
+    let few : length roster ≤ 24 = subst (λ xs. length xs ≤ 24) (sym c.roster_of-roster.ensures) (from_few 24 c.args.ases.now) in
     let long = length-set numbers i (get_or roster i 0) in
     let there : i < length numbers = omega arith in
     (omega arith, take_more_set numbers i (get_or roster i 0) there ∙ ap (λ ys. ys ++ get_or roster i 0 ∷ []) inv.1 ∙ sym (take_more roster i 0 c.loop-i-test.true))
 
 pub invariant-of-result : goal.invariant-of-result
 invariant-of-result c =
-    let roster = c.roster-of-roster.result.now in
-    let is = sym c.roster-of-roster.ensures in
+    let roster = c.roster_of-roster.result.now in
+    let is = sym c.roster_of-roster.ensures in
     let few : length roster ≤ 24 = subst (λ xs. length xs ≤ 24) is (from_few 24 c.args.ases.now) in
     let rising : climbs 0 roster ≡ true = subst (λ xs. climbs 0 xs ≡ true) is (from_rising 24 c.args.ases.now) in
     let all = copied c.loop-i.numbers roster c.loop-i.i c.loop-i-test.false c.loop-i.auto.i-end c.loop-i.invariant.1 in
@@ -33,5 +33,5 @@ invariant-of-result c =
 
 pub returns : goal.returns
 returns c =
-    let all = copied c.loop-i.numbers c.roster-of-roster.result.now c.loop-i.i c.loop-i-test.false c.loop-i.auto.i-end c.loop-i.invariant.1 in
-    record { roster = all ∙ c.roster-of-roster.ensures; book = refl; limit = refl }
+    let all = copied c.loop-i.numbers c.roster_of-roster.result.now c.loop-i.i c.loop-i-test.false c.loop-i.auto.i-end c.loop-i.invariant.1 in
+    record { roster = all ∙ c.roster_of-roster.ensures; book = refl; limit = refl }

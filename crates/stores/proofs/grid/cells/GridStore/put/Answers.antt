@@ -12,17 +12,17 @@ invariant-of-self c =
     let cells = set s.cells n c.args.held in
     let tally = length (filled (row (n / 24) cells)) in
     let long : length s.tallies ≡ 24 = omega arith in
-    let is = sym c.put-in.ensures.cells in
+    let is = sym c.put_in.ensures.cells in
     let fits = fit_set (take s.count s.ases) s.rising 0 n n s.cells c.args.held (omega arith) s.placed c.requires.1 in
     let counts = tallied_set s.tallies s.cells n tally c.args.held long c.requires.0 s.tallied refl in (
-      ap length c.put-in.ensures.cells ∙ length-set s.cells n c.args.held ∙ s.sized,
+      ap length c.put_in.ensures.cells ∙ length-set s.cells n c.args.held ∙ s.sized,
       (
         s.within,
         (
           s.rising,
           (
             subst (λ xs. fit (take s.count s.ases) 0 xs ≡ true) is fits,
-            (subst (λ xs. Tallied c.put-in.new.tallies xs) is (subst (λ ts. Tallied ts cells) (sym c.put-in.ensures.tallies) counts), tt),
+            (subst (λ xs. Tallied c.put_in.new.tallies xs) is (subst (λ ts. Tallied ts cells) (sym c.put_in.ensures.tallies) counts), tt),
           ),
         ),
       ),
