@@ -29,7 +29,7 @@ fn is_small<C: Copy>(table: &Table<'_, '_, C>, n: usize) -> bool
 // Begins a board: no destination is settled then.
 pub fn open<S: Store, C: Copy>(store: &S, table: &mut Table<'_, '_, C>) -> Result<(), BoardRefusal>
     ensures named { (table.new.entries.ghost_name ≡ table.old.entries.ghost_name) × (table.new.marks.ghost_name ≡ table.old.marks.ghost_name) }
-    ensures opens { Opens (length (roster store.now)) table.old.entries.now table.new.entries.now table.old.marks.now table.new.marks.now result }
+    ensures opens { Opens (length (S.roster store.now)) table.old.entries.now table.new.entries.now table.old.marks.now table.new.marks.now result }
 {
     let n = store.as_count();
     if is_small(table, n) {
@@ -50,7 +50,7 @@ pub fn link<S: EditableStore, C: Copy>(
     figures: Figures,
 ) -> Result<(), BoardRefusal>
     ensures named { (table.new.entries.ghost_name ≡ table.old.entries.ghost_name) × (table.new.marks.ghost_name ≡ table.old.marks.ghost_name) }
-    ensures links { BoardLinks first second relation figures (S.Store.roster store.old) (S.Store.roster store.new) (S.Store.book store.old) (S.Store.book store.new) (limit store.old) (limit store.new) table.old.entries.now table.new.entries.now table.old.marks.now table.new.marks.now result }
+    ensures links { BoardLinks first second relation figures (S.Store.roster store.old) (S.Store.roster store.new) (S.Store.book store.old) (S.Store.book store.new) (S.limit store.old) (S.limit store.new) table.old.entries.now table.new.entries.now table.old.marks.now table.new.marks.now result }
 {
     let n = store.as_count();
     if is_small(table, n) {
@@ -71,7 +71,7 @@ pub fn recost<S: EditableStore, C: Copy>(
     figures: Figures,
 ) -> Result<(), BoardRefusal>
     ensures named { (table.new.entries.ghost_name ≡ table.old.entries.ghost_name) × (table.new.marks.ghost_name ≡ table.old.marks.ghost_name) }
-    ensures recosts { BoardRecosts first second figures (S.Store.roster store.old) (S.Store.roster store.new) (S.Store.book store.old) (S.Store.book store.new) (limit store.old) (limit store.new) table.old.entries.now table.new.entries.now table.old.marks.now table.new.marks.now result }
+    ensures recosts { BoardRecosts first second figures (S.Store.roster store.old) (S.Store.roster store.new) (S.Store.book store.old) (S.Store.book store.new) (S.limit store.old) (S.limit store.new) table.old.entries.now table.new.entries.now table.old.marks.now table.new.marks.now result }
 {
     let n = store.as_count();
     if is_small(table, n) {
@@ -91,7 +91,7 @@ pub fn unlink<S: EditableStore, C: Copy>(
     second: u32,
 ) -> Result<(), BoardRefusal>
     ensures named { (table.new.entries.ghost_name ≡ table.old.entries.ghost_name) × (table.new.marks.ghost_name ≡ table.old.marks.ghost_name) }
-    ensures unlinks { BoardUnlinks first second (S.Store.roster store.old) (S.Store.roster store.new) (S.Store.book store.old) (S.Store.book store.new) (limit store.old) (limit store.new) table.old.entries.now table.new.entries.now table.old.marks.now table.new.marks.now result }
+    ensures unlinks { BoardUnlinks first second (S.Store.roster store.old) (S.Store.roster store.new) (S.Store.book store.old) (S.Store.book store.new) (S.limit store.old) (S.limit store.new) table.old.entries.now table.new.entries.now table.old.marks.now table.new.marks.now result }
 {
     let n = store.as_count();
     if is_small(table, n) {

@@ -29,10 +29,10 @@ pub fn entry_of<S: Store, M: Measure>(
     from: usize,
     class: Class,
 ) -> Entry<M::Cost>
-    requires to { to < length (roster store.now) }
-    requires from { from < length (roster store.now) }
-    requires room { 2 * length (roster store.now) * length (roster store.now) ≤ length entries.now }
-    ensures { result ≡ entry_at measure (net_of (roster store.now) (book store.now)) entries.now to from class }
+    requires to { to < length (S.roster store.now) }
+    requires from { from < length (S.roster store.now) }
+    requires room { 2 * length (S.roster store.now) * length (S.roster store.now) ≤ length entries.now }
+    ensures { result ≡ entry_at M.measure (net_of (S.roster store.now) (S.book store.now)) entries.now to from class }
 {
     entries[spot_of(store.as_count(), to, from, class)]
 }
@@ -45,10 +45,10 @@ pub fn owed<S: Store, M: Measure>(
     from: usize,
     class: Class,
 ) -> M::Cost
-    requires to { to < length (roster store.now) }
-    requires from { from < length (roster store.now) }
-    requires room { 2 * length (roster store.now) * length (roster store.now) ≤ length entries.now }
-    ensures { result ≡ owed_cost measure (net_of (roster store.now) (book store.now)) entries.now to from class }
+    requires to { to < length (S.roster store.now) }
+    requires from { from < length (S.roster store.now) }
+    requires room { 2 * length (S.roster store.now) * length (S.roster store.now) ≤ length entries.now }
+    ensures { result ≡ owed_cost M.measure (net_of (S.roster store.now) (S.book store.now)) entries.now to from class }
 {
     if from == to {
         return M::start();

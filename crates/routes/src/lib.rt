@@ -24,7 +24,7 @@ fn judge<S: Store, C: Copy>(
     source: u32,
     destination: u32,
 ) -> Result<(usize, usize), RouteRefusal>
-    ensures { result ≡ judged (roster store.now) entries.now marks.now source destination }
+    ensures { result ≡ judged (S.roster store.now) entries.now marks.now source destination }
 {
     let n = store.as_count();
     if entries.len() < 2 * n * n || marks.len() < n {
@@ -50,7 +50,7 @@ pub fn hop<S: Store, M: Measure>(
     class: Class,
     destination: u32,
 ) -> Result<Option<u32>, RouteRefusal>
-    ensures { result ≡ hop_answer measure (net_of (roster store.now) (book store.now)) table.now.entries.now table.now.marks.now source class destination }
+    ensures { result ≡ hop_answer M.measure (net_of (S.roster store.now) (S.book store.now)) table.now.entries.now table.now.marks.now source class destination }
 {
     let entries = &*table.entries;
     let marks = &*table.marks;
@@ -77,8 +77,8 @@ fn send_by<S: Store, M: Measure>(
     destination: u32,
     list: &mut [u32],
 ) -> Result<(M::Cost, usize), RouteRefusal>
-    ensures answer { result ≡ send_answer (sending measure (net_of (roster store.now) (book store.now)) entries.now marks.now source destination (length list.old)) }
-    ensures list { list.new ≡ send_list list.old (sending measure (net_of (roster store.now) (book store.now)) entries.now marks.now source destination (length list.old)) }
+    ensures answer { result ≡ send_answer (sending M.measure (net_of (S.roster store.now) (S.book store.now)) entries.now marks.now source destination (length list.old)) }
+    ensures list { list.new ≡ send_list list.old (sending M.measure (net_of (S.roster store.now) (S.book store.now)) entries.now marks.now source destination (length list.old)) }
 {
     let (from, to) = judge(store, entries, marks, source, destination)?;
     let first = entry_of::<S, M>(store, entries, to, from, Class::Home);
@@ -99,8 +99,8 @@ pub fn send<S: Store, M: Measure>(
     destination: u32,
     list: &mut [u32],
 ) -> Result<(M::Cost, usize), RouteRefusal>
-    ensures answer { result ≡ send_answer (sending measure (net_of (roster store.now) (book store.now)) table.now.entries.now table.now.marks.now source destination (length list.old)) }
-    ensures list { list.new ≡ send_list list.old (sending measure (net_of (roster store.now) (book store.now)) table.now.entries.now table.now.marks.now source destination (length list.old)) }
+    ensures answer { result ≡ send_answer (sending M.measure (net_of (S.roster store.now) (S.book store.now)) table.now.entries.now table.now.marks.now source destination (length list.old)) }
+    ensures list { list.new ≡ send_list list.old (sending M.measure (net_of (S.roster store.now) (S.book store.now)) table.now.entries.now table.now.marks.now source destination (length list.old)) }
 {
     let entries = &*table.entries;
     let marks = &*table.marks;
@@ -110,7 +110,7 @@ pub fn send<S: Store, M: Measure>(
 // Where each marked column has the cheapest legal paths, hop answers what it must: the smallest next AS of a cheapest path that is open to the
 // class, or that there is none, and meets no false entry.
 pub fn hops_right<M: Measure>() -> u8
-    ensures { HopsRight measure }
+    ensures { HopsRight M.measure }
 {
     0
 }
@@ -118,14 +118,14 @@ pub fn hops_right<M: Measure>() -> u8
 // Where each marked column has the cheapest legal paths, send answers what it must: the path that goes by the smallest next ASes of cheapest
 // paths, its cost and its links, or that there is none, and meets no false entry and no long walk.
 pub fn sends_right<M: Measure>() -> u8
-    ensures { SendsRight measure }
+    ensures { SendsRight M.measure }
 {
     0
 }
 
 // Whatever the memory holds, send writes no more than 2 · n ASes.
 pub fn sends_few<M: Measure>() -> u8
-    ensures { SendsFew measure }
+    ensures { SendsFew M.measure }
 {
     0
 }

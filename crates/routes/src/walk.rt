@@ -18,7 +18,7 @@ use table::types::{Entry, RouteRefusal};
 // Whether a cost is that of a link more than another, and both are in range.
 fn pays<M: Measure>(cost: M::Cost, base: M::Cost, figures: Figures) -> bool
     requires { Limits figures }
-    ensures { result ≡ pays_for measure cost base figures }
+    ensures { result ≡ pays_for M.measure cost base figures }
 {
     if !M::in_range(cost) {
         return false;
@@ -41,10 +41,10 @@ fn step_on<S: Store, M: Measure>(
     from: usize,
     class: Class,
 ) -> Option<(usize, Class)>
-    requires to { to < length (roster store.now) }
-    requires from { from < length (roster store.now) }
-    requires room { 2 * length (roster store.now) * length (roster store.now) ≤ length entries.now }
-    ensures { result ≡ next_of measure (net_of (roster store.now) (book store.now)) entries.now to from class }
+    requires to { to < length (S.roster store.now) }
+    requires from { from < length (S.roster store.now) }
+    requires room { 2 * length (S.roster store.now) * length (S.roster store.now) ≤ length entries.now }
+    ensures { result ≡ next_of M.measure (net_of (S.roster store.now) (S.book store.now)) entries.now to from class }
 {
     let entry = entry_of::<S, M>(store, entries, to, from, class);
     let next = entry.next as usize;
@@ -67,10 +67,10 @@ pub fn count_links<S: Store, M: Measure>(
     from: usize,
     room: usize,
 ) -> Result<usize, RouteRefusal>
-    requires to { to < length (roster store.now) }
-    requires from { from < length (roster store.now) }
-    requires room { 2 * length (roster store.now) * length (roster store.now) ≤ length entries.now }
-    ensures { result ≡ links_within room (walk measure (net_of (roster store.now) (book store.now)) entries.now (2 * length (roster store.now)) to from Home) }
+    requires to { to < length (S.roster store.now) }
+    requires from { from < length (S.roster store.now) }
+    requires room { 2 * length (S.roster store.now) * length (S.roster store.now) ≤ length entries.now }
+    ensures { result ≡ links_within room (walk M.measure (net_of (S.roster store.now) (S.book store.now)) entries.now (2 * length (S.roster store.now)) to from Home) }
 {
     let most = 2 * store.as_count();
     let mut place = from;
@@ -99,7 +99,7 @@ pub fn count_links<S: Store, M: Measure>(
 
 // The AS at a place.
 fn number_at<S: Store>(store: &S, spot: usize) -> u32
-    ensures { result ≡ slice_index (roster store.now) spot }
+    ensures { result ≡ slice_index (S.roster store.now) spot }
 {
     store.as_at(spot).unwrap_or(0)
 }
@@ -113,12 +113,12 @@ pub fn write_walk<S: Store, M: Measure>(
     list: &mut [u32],
     links: usize,
 )
-    requires to { to < length (roster store.now) }
-    requires from { from < length (roster store.now) }
-    requires room { 2 * length (roster store.now) * length (roster store.now) ≤ length entries.now }
-    requires walk { (p : List ℕ) × (walk measure (net_of (roster store.now) (book store.now)) entries.now (2 * length (roster store.now)) to from Home ≡ Ok p) × (length p ≡ links + 1) }
+    requires to { to < length (S.roster store.now) }
+    requires from { from < length (S.roster store.now) }
+    requires room { 2 * length (S.roster store.now) * length (S.roster store.now) ≤ length entries.now }
+    requires walk { (p : List ℕ) × (walk M.measure (net_of (S.roster store.now) (S.book store.now)) entries.now (2 * length (S.roster store.now)) to from Home ≡ Ok p) × (length p ≡ links + 1) }
     requires fits { links < length list.old }
-    ensures { (p : List ℕ) → walk measure (net_of (roster store.now) (book store.now)) entries.now (2 * length (roster store.now)) to from Home ≡ Ok p → list.new ≡ p ++ drop (length p) list.old }
+    ensures { (p : List ℕ) → walk M.measure (net_of (S.roster store.now) (S.book store.now)) entries.now (2 * length (S.roster store.now)) to from Home ≡ Ok p → list.new ≡ p ++ drop (length p) list.old }
 {
     let mut place = from;
     let mut class = Class::Home;

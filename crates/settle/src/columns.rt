@@ -12,7 +12,7 @@ use waiting::list::Waiting;
 
 // Every entry is blank then.
 pub fn blank_column<M: Measure>(column: &mut [Entry<M::Cost>])
-    ensures { (p : ℕ) → p < length column.new → slice_index_or column.new p (blank measure.start) ≡ blank measure.start }
+    ensures { (p : ℕ) → p < length column.new → slice_index_or column.new p (blank M.measure.start) ≡ blank M.measure.start }
 {
     let start = M::start();
     for x in column.iter_mut() {
@@ -34,8 +34,8 @@ pub fn start_class<M: Measure>(
     requires few { length column.old ≤ 1024 }
     requires idle { held waiting.old (pair spot class) ≡ None }
     requires free { 0 < room waiting.old }
-    ensures column { column.new ≡ slice_set column.old (pair spot class) (entry_of spot measure.start) }
-    ensures sets { Sets (held waiting.old) (held waiting.new) (pair spot class) (Some measure.start) }
+    ensures column { column.new ≡ slice_set column.old (pair spot class) (entry_of spot M.measure.start) }
+    ensures sets { Sets (held waiting.old) (held waiting.new) (pair spot class) (Some M.measure.start) }
     ensures room { room waiting.new + 1 ≡ room waiting.old }
     ensures space { length (memory waiting.new) ≡ length (memory waiting.old) }
 {

@@ -20,12 +20,12 @@ fn start_column<S: Store, M: Measure>(
     waiting: &mut Waiting<'_, M>,
     spot: usize,
 )
-    requires known { spot < length (roster store.now) }
-    requires long { length column.old ≡ 2 * length (roster store.now) }
+    requires known { spot < length (S.roster store.now) }
+    requires long { length column.old ≡ 2 * length (S.roster store.now) }
     requires space { length column.old ≤ length (memory waiting.old) }
     requires none { (q : ℕ) → held waiting.old q ≡ None }
     requires room { room waiting.old ≡ length (memory waiting.old) }
-    ensures { Between measure (roster store.now) (book store.now) (slice_index (roster store.now) spot) column.new (held waiting.new) (length (memory waiting.new)) }
+    ensures { Between M.measure (S.roster store.now) (S.book store.now) (slice_index (S.roster store.now) spot) column.new (held waiting.new) (length (memory waiting.new)) }
 {
     blank_column::<M>(column);
     start_class(column, waiting, spot, Class::Home);
@@ -39,10 +39,10 @@ pub fn fill_column<S: Store, M: Measure>(
     slots: &mut [Slot<M::Cost>],
     spot: usize,
 ) -> usize
-    requires known { spot < length (roster store.now) }
-    requires long { length column.old ≡ 2 * length (roster store.now) }
+    requires known { spot < length (S.roster store.now) }
+    requires long { length column.old ≡ 2 * length (S.roster store.now) }
     requires space { length column.old ≤ length slots.old }
-    ensures ended { Ended measure (roster store.now) (book store.now) (slice_index (roster store.now) spot) column.new }
+    ensures ended { Ended M.measure (S.roster store.now) (S.book store.now) (slice_index (S.roster store.now) spot) column.new }
     ensures count { result ≡ filled column.new }
 {
     let mut waiting: Waiting<'_, M> = Waiting::new(slots);

@@ -40,7 +40,7 @@ fn settle_slices<S: Store, M: Measure>(
     numbers: &mut [u32],
     destination: u32,
 ) -> Result<usize, RouteRefusal>
-    ensures { Settles measure (roster store.now) (book store.now) destination (record { entries = entries.entry.now; marks = marks.old; waiting = waiting.old; numbers = numbers.old }) (record { entries = entries.exit.now; marks = marks.new; waiting = waiting.new; numbers = numbers.new }) result }
+    ensures { Settles M.measure (S.roster store.now) (S.book store.now) destination (record { entries = entries.entry.now; marks = marks.old; waiting = waiting.old; numbers = numbers.old }) (record { entries = entries.exit.now; marks = marks.new; waiting = waiting.new; numbers = numbers.new }) result }
 {
     let n = store.as_count();
     let row = 2 * n;
@@ -67,7 +67,7 @@ pub fn settle<S: Store, M: Measure>(
     work: &mut Work<'_, '_, M::Cost>,
     destination: u32,
 ) -> Result<usize, RouteRefusal>
-    ensures settles { Settles measure (roster store.now) (book store.now) destination (memory_of table.old work.old) (memory_of table.new work.new) result }
+    ensures settles { Settles M.measure (S.roster store.now) (S.book store.now) destination (memory_of table.old work.old) (memory_of table.new work.new) result }
     ensures lent { Lent table.old table.new work.old work.new }
 {
     let Table { entries, marks } = table;

@@ -21,9 +21,9 @@ fn relax_link<S: Store, M: Measure>(
     from: Taken<M::Cost>,
     spot: usize,
 )
-    requires known { from.place < length (roster store.now) }
-    requires before { (d : ℕ) × (q : Table (M.Cost)) × Midway measure (roster store.now) (book store.now) from spot d q column.old (held waiting.old) (length (memory waiting.old)) }
-    ensures after { (d : ℕ) (q : Table (M.Cost)) → Midway measure (roster store.now) (book store.now) from spot d q column.old (held waiting.old) (length (memory waiting.old)) → Midway measure (roster store.now) (book store.now) from (spot + 1) d q column.new (held waiting.new) (length (memory waiting.new)) }
+    requires known { from.place < length (S.roster store.now) }
+    requires before { (d : ℕ) × (q : Table (M.Cost)) × Midway M.measure (S.roster store.now) (S.book store.now) from spot d q column.old (held waiting.old) (length (memory waiting.old)) }
+    ensures after { (d : ℕ) (q : Table (M.Cost)) → Midway M.measure (S.roster store.now) (S.book store.now) from spot d q column.old (held waiting.old) (length (memory waiting.old)) → Midway M.measure (S.roster store.now) (S.book store.now) from (spot + 1) d q column.new (held waiting.new) (length (memory waiting.new)) }
 {
     let Some(number) = store.as_at(from.place as usize) else {
         return;
@@ -57,9 +57,9 @@ pub fn relax_links<S: Store, M: Measure>(
     waiting: &mut Waiting<'_, M>,
     from: Taken<M::Cost>,
 )
-    requires known { from.place < length (roster store.now) }
-    requires before { (d : ℕ) × (q : Table (M.Cost)) × Midway measure (roster store.now) (book store.now) from 0 d q column.old (held waiting.old) (length (memory waiting.old)) }
-    ensures after { (d : ℕ) (q : Table (M.Cost)) → Midway measure (roster store.now) (book store.now) from 0 d q column.old (held waiting.old) (length (memory waiting.old)) → Midway measure (roster store.now) (book store.now) from (length (book store.now)) d q column.new (held waiting.new) (length (memory waiting.new)) }
+    requires known { from.place < length (S.roster store.now) }
+    requires before { (d : ℕ) × (q : Table (M.Cost)) × Midway M.measure (S.roster store.now) (S.book store.now) from 0 d q column.old (held waiting.old) (length (memory waiting.old)) }
+    ensures after { (d : ℕ) (q : Table (M.Cost)) → Midway M.measure (S.roster store.now) (S.book store.now) from 0 d q column.old (held waiting.old) (length (memory waiting.old)) → Midway M.measure (S.roster store.now) (S.book store.now) from (length (S.book store.now)) d q column.new (held waiting.new) (length (memory waiting.new)) }
 {
     let count = store.link_count();
     for spot in 0..count {

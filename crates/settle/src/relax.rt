@@ -23,8 +23,8 @@ fn relax<M: Measure>(
 )
     requires within { pair < length column.old }
     requires few { length column.old ≤ 1024 }
-    requires ready { Ready measure.less measure.start column.old (held waiting.old) (room waiting.old) pair offer }
-    ensures offered { Offered measure.less measure.start from offer pair column.old column.new (held waiting.old) (held waiting.new) }
+    requires ready { Ready M.measure.less M.measure.start column.old (held waiting.old) (room waiting.old) pair offer }
+    ensures offered { Offered M.measure.less M.measure.start from offer pair column.old column.new (held waiting.old) (held waiting.new) }
     ensures space { length (memory waiting.new) ≡ length (memory waiting.old) }
 {
     let old = column[pair];
@@ -62,8 +62,8 @@ pub fn relax_class<M: Measure>(
 )
     requires within { pair_of spot class < length column.old }
     requires few { length column.old ≤ 1024 }
-    requires ready { Ready measure.less measure.start column.old (held waiting.old) (room waiting.old) (pair_of spot class) offer }
-    ensures told { Told measure.less measure.start class relation from.class from.place offer (pair_of spot class) column.old column.new (held waiting.old) (held waiting.new) }
+    requires ready { Ready M.measure.less M.measure.start column.old (held waiting.old) (room waiting.old) (pair_of spot class) offer }
+    ensures told { Told M.measure.less M.measure.start class relation from.class from.place offer (pair_of spot class) column.old column.new (held waiting.old) (held waiting.new) }
     ensures space { length (memory waiting.new) ≡ length (memory waiting.old) }
 {
     let Some(after) = next_class(class, relation) else {

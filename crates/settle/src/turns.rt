@@ -16,8 +16,8 @@ pub fn settle_pairs<S: Store, M: Measure>(
     column: &mut [Entry<M::Cost>],
     waiting: &mut Waiting<'_, M>,
 )
-    requires before { (d : ℕ) × Between measure (roster store.now) (book store.now) d column.old (held waiting.old) (length (memory waiting.old)) }
-    ensures after { (d : ℕ) → Between measure (roster store.now) (book store.now) d column.old (held waiting.old) (length (memory waiting.old)) → Ended measure (roster store.now) (book store.now) d column.new }
+    requires before { (d : ℕ) × Between M.measure (S.roster store.now) (S.book store.now) d column.old (held waiting.old) (length (memory waiting.old)) }
+    ensures after { (d : ℕ) → Between M.measure (S.roster store.now) (S.book store.now) d column.old (held waiting.old) (length (memory waiting.old)) → Ended M.measure (S.roster store.now) (S.book store.now) d column.new }
 {
     while let Some(slot) = waiting.take() {
         let from = pair_of(slot);

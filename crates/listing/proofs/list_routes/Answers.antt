@@ -11,7 +11,7 @@ returns-in-Err c = malformed c.in-Err.fault (omega arith) c.in-Err.ensures.surve
 pub table_of-requires : goal.table_of-requires
 table_of-requires c =
     let found = vec_items c.survey.new.ases in
-    let e = c.in-default.ensures in
+    let e = c.in_default.ensures in
     record {
       few = omega (arith, c.deref.ensures.len, e.few);
       rising = ap (climbs 0) c.deref.ensures.value ∙ survey_climbs (Ok found) 0 c.args.text.now [] found e.surveys refl refl;
@@ -20,4 +20,4 @@ table_of-requires c =
 pub returns : goal.returns
 returns c =
     let same = c.deref.ensures.value in
-    IfOk-weaker c.table_of.result _ _ (λ l t. well_formed (vec_items c.survey.new.ases) (omega arith) c.in-default.ensures.surveys (subst (λ xs. Tables xs c.args.text.now l) same t)) c.table_of.ensures
+    IfOk-weaker c.table_of.result _ _ (λ l t. well_formed (vec_items c.survey.new.ases) (omega arith) c.in_default.ensures.surveys (subst (λ xs. Tables xs c.args.text.now l) same t)) c.table_of.ensures

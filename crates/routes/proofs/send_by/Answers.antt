@@ -8,10 +8,10 @@ use Rattle.routes.proofs.Walked.{links_some, headed}
 use Rattle.routes.proofs.Sent.{sent, not_sent, same_reply}
 use Rattle.routes.proofs.send_by.Given as given
 use Rattle.routes.proofs.send_by.Goals as goal
-use Rattle.routes.proofs.send_by.Goals.{In-ok-from, After-count_links, In-ok-links, else-from-to-via-then-from-to+else-first, else-from-to-via-else-from-to}
+use Rattle.routes.proofs.send_by.Goals.{In_ok-from, After-count_links, In_ok-links, else-from-to-via-then-from-to+else-first, else-from-to-via-else-from-to}
 
 -- what the accepted question says
-known : (g : given.Over) (c : In-ok-from g) →
+known : (g : given.Over) (c : In_ok-from g) →
     Ready (g.S.Store.roster c.args.store.now) c.args.entries.now c.args.marks.now c.args.source c.args.destination c.in_ok-from.from c.in_ok-from.to
 known g c =
     ready (g.S.Store.roster c.args.store.now) c.args.entries.now c.args.marks.now c.args.source c.args.destination c.in_ok-from.from c.in_ok-from.to
@@ -27,7 +27,7 @@ free g c =
     ]
 
 -- the walk that was counted
-walked : (g : given.Over) (c : In-ok-links g) →
+walked : (g : given.Over) (c : In_ok-links g) →
     let m = g.M.Measure.measure in
     let net : Network = net_of (g.S.Store.roster c.args.store.now) (g.S.Store.book c.args.store.now) in
     (p : List ℕ) × (walk m net c.args.entries.now (2 * length net.roster) c.in_ok-from.to c.in_ok-from.from Home ≡ Ok p) × (length p ≤ length c.args.list.now) × (length p ≡ c.in_ok-links.links + 1)
@@ -43,18 +43,18 @@ walked g c =
     (p.0, p.1, p.2, omega (arith, p.3, ap length q.1))
 
 pub entry_of-first-requires : goal.entry_of-first-requires
-entry_of-first-requires g c = let r = known g (goal.at.entry_of-first-requires g c).In-ok-from in record { to = r.to; from = r.from; room = r.room }
+entry_of-first-requires g c = let r = known g (goal.at.entry_of-first-requires g c).In_ok-from in record { to = r.to; from = r.from; room = r.room }
 
 pub count_links-requires : goal.count_links-requires
-count_links-requires g c = let r = known g (goal.at.count_links-requires g c).In-ok-from in record { to = r.to; from = r.from; room = r.room }
+count_links-requires g c = let r = known g (goal.at.count_links-requires g c).In_ok-from in record { to = r.to; from = r.from; room = r.room }
 
 pub owed-cost-requires : goal.owed-cost-requires
-owed-cost-requires g c = let r = known g (goal.at.owed-cost-requires g c).In-ok-from in record { to = r.to; from = r.from; room = r.room }
+owed-cost-requires g c = let r = known g (goal.at.owed-cost-requires g c).In_ok-from in record { to = r.to; from = r.from; room = r.room }
 
 pub write_walk-requires : goal.write_walk-requires
 write_walk-requires g c =
-    let r = known g (goal.at.write_walk-requires g c).In-ok-from in
-    let p = walked g (goal.at.write_walk-requires g c).In-ok-links in
+    let r = known g (goal.at.write_walk-requires g c).In_ok-from in
+    let p = walked g (goal.at.write_walk-requires g c).In_ok-links in
     record { to = r.to; from = r.from; room = r.room; walk = (p.0, p.1, p.3); fits = omega (arith, p.2, p.3) }
 
 pub returns-in_err-links : goal.returns-in_err-links
@@ -72,9 +72,9 @@ returns g c =
     let m = g.M.Measure.measure in
     let net : Network = net_of (g.S.Store.roster c.args.store.now) (g.S.Store.book c.args.store.now) in
     let entries = c.args.entries.now in
-    let p = walked g (goal.at.returns g c).In-ok-links in
+    let p = walked g (goal.at.returns g c).In_ok-links in
     let all = sent m net entries c.in_ok-from.from c.in_ok-from.to c.args.marks.now c.args.source c.args.destination (length c.args.list.now) (sym c.in_ok-from.ensures) (free g (goal.at.returns g c).After-count_links) p.0 p.1 p.2 in
-    let cost : c.owed_cost.result ≡ owed m net entries c.in_ok-from.to c.in_ok-from.from Home = cc c.owed_cost.ensures in
+    let cost : c.owed-cost.result ≡ owed m net entries c.in_ok-from.to c.in_ok-from.from Home = cc c.owed-cost.ensures in
     record {
       answer = same_reply cost (omega (arith, p.3)) ∙ sym (ap send_answer all);
       list = c.write_walk.ensures p.0 p.1 ∙ sym (ap (send_list c.args.list.now) all);

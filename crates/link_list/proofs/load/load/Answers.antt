@@ -29,7 +29,7 @@ returns-in-Err g c =
     }
 
 -- the next line was entered: what is left is shorter by 41 bytes, and a load from there on is one from here
-next-line : (g : given.Over) (c : goal.In-default g) →
+next-line : (g : given.Over) (c : goal.In_default g) →
     (41 ≤ length (left c.loop-reader.reader)) × (left c.enter_line.new.reader ≡ drop 41 (left c.loop-reader.reader)) ×
     ((book' : List Link) (marks' : List ℕ) (r : Result ℕ Fault) →
     Loads (g.S.Store.roster c.args.store.now) (g.S.EditableStore.limit c.args.store.now) c.args.table.now.entries.now book' marks' r (c.loop-reader.entered + 1) (left c.enter_line.new.reader) (g.S.Store.book c.enter_line.new.store) c.enter_line.new.table.marks.now →
@@ -42,7 +42,7 @@ next-line g c =
     let roster = g.S.Store.roster first in
     let limit = g.S.EditableStore.limit first in
     let entries = c.args.table.now.entries.now in
-    let same = same_terms roster limit entries (g.S.Store.roster was) (g.S.EditableStore.limit was) c.loop-reader.table.entries.now i.2 i.3 i.4 (left c.loop-reader.reader) (left c.enter_line.new.reader) (g.S.Store.book was) (g.S.Store.book then) c.loop-reader.table.marks.now c.enter_line.new.table.marks.now (Ok tt) c.in-default.ensures.enters in
+    let same = same_terms roster limit entries (g.S.Store.roster was) (g.S.EditableStore.limit was) c.loop-reader.table.entries.now i.2 i.3 i.4 (left c.loop-reader.reader) (left c.enter_line.new.reader) (g.S.Store.book was) (g.S.Store.book then) c.loop-reader.table.marks.now c.enter_line.new.table.marks.now (Ok tt) c.in_default.ensures.enters in
     goes_on roster limit entries c.loop-reader.entered (left c.loop-reader.reader) (left c.enter_line.new.reader) (g.S.Store.book was) (g.S.Store.book then) c.loop-reader.table.marks.now c.enter_line.new.table.marks.now same
 
 pub loop-reader-smaller : goal.loop-reader-smaller
@@ -54,7 +54,7 @@ loop-reader-smaller g c =
 pub loop-reader-preserved : goal.loop-reader-preserved
 loop-reader-preserved g c =
     let i = c.loop-reader.invariant in
-    let e = c.in-default.ensures in
+    let e = c.in_default.ensures in
     let next = next-line g c in
     let less : length (left c.enter_line.new.reader) + 41 ≡ length (left c.loop-reader.reader) = shorter (left c.loop-reader.reader) (left c.enter_line.new.reader) next.0 next.1 in (
       e.named.0 ∙ i.0,

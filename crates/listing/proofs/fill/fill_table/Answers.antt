@@ -29,11 +29,11 @@ settle_all-requires g c =
     let then = c.load.new.store in
     let table = c.args.table.now in
     let after = c.load.new.table in
-    let e = c.in-default.ensures in
+    let e = c.in_default.ensures in
     let same : g.S.Store.roster then ≡ c.args.ases.now = e.roster ∙ c.requires.ases in
     let large : small (length (g.S.Store.roster was)) table.entries.now table.marks.now ≡ false = ap (λ xs. small (length xs) table.entries.now table.marks.now) c.requires.ases ∙ c.requires.enough in
-    let unmarked = load_unmarked (g.S.Store.roster was) (g.S.EditableStore.limit was) table.entries.now (g.S.Store.book then) after.marks.now (Ok c.in-default.field-0) 0 c.args.text.now (g.S.Store.book was) table.marks.now e.loads c.requires.unmarked in
-    let long = load_long (g.S.Store.roster was) (g.S.EditableStore.limit was) table.entries.now (g.S.Store.book then) after.marks.now (Ok c.in-default.field-0) 0 c.args.text.now (g.S.Store.book was) table.marks.now e.loads (marks_enough (length (g.S.Store.roster was)) table.entries.now table.marks.now large) in
+    let unmarked = load_unmarked (g.S.Store.roster was) (g.S.EditableStore.limit was) table.entries.now (g.S.Store.book then) after.marks.now (Ok c.in_default.field-0) 0 c.args.text.now (g.S.Store.book was) table.marks.now e.loads c.requires.unmarked in
+    let long = load_long (g.S.Store.roster was) (g.S.EditableStore.limit was) table.entries.now (g.S.Store.book then) after.marks.now (Ok c.in_default.field-0) 0 c.args.text.now (g.S.Store.book was) table.marks.now e.loads (marks_enough (length (g.S.Store.roster was)) table.entries.now table.marks.now large) in
     let still = still_large (length (g.S.Store.roster was)) table.entries.now after.entries.now table.marks.now after.marks.now large e.entries long in
     record {
       all = sym same;
@@ -48,7 +48,7 @@ returns g c =
     let table = c.args.table.now in
     let then = c.load.new.store in
     let ases = c.args.ases.now in
-    let e = c.in-default.ensures in
-    let told = as_told ases (g.S.Store.roster was) c.args.text.now (g.S.Store.book was) (g.S.Store.book then) (g.S.EditableStore.limit was) table.entries.now table.marks.now c.load.new.table.marks.now (Ok c.in-default.field-0) c.requires.ases c.requires.limit c.requires.empty e.loads in
-    listed (g.S.Store.book then) c.in-default.field-0 c.in_ok-rows.rows (record { entries = table.entries.now; marks = table.marks.now; marks_then = c.load.new.table.marks.now; enough = c.requires.enough; loads = told })
+    let e = c.in_default.ensures in
+    let told = as_told ases (g.S.Store.roster was) c.args.text.now (g.S.Store.book was) (g.S.Store.book then) (g.S.EditableStore.limit was) table.entries.now table.marks.now c.load.new.table.marks.now (Ok c.in_default.field-0) c.requires.ases c.requires.limit c.requires.empty e.loads in
+    listed (g.S.Store.book then) c.in_default.field-0 c.in_ok-rows.rows (record { entries = table.entries.now; marks = table.marks.now; marks_then = c.load.new.table.marks.now; enough = c.requires.enough; loads = told })
     (subst (λ xs. RowsRight (net_of xs (g.S.Store.book then)) (pairs_from ases ases) (vec_items c.in_ok-rows.rows)) (e.roster ∙ c.requires.ases) c.in_ok-rows.ensures) refl

@@ -20,10 +20,10 @@ at_fault n [] ases c some e = absurd (both_ways true some refl)
 at_fault n (b ∷ bs) ases c some e = stops n b bs ases c e refl
 
 -- the next line was read: what is left is shorter by 41 bytes
-next-line : (c : goal.In-default) → length (left c.survey_line.new.reader) + 41 ≡ length (left c.loop-reader.reader)
+next-line : (c : goal.In_default) → length (left c.survey_line.new.reader) + 41 ≡ length (left c.loop-reader.reader)
 next-line c =
     let bs = left c.loop-reader.reader in
-    let e = c.in-default.ensures in
+    let e = c.in_default.ensures in
     let start = first_ok (start_answer bs) _ (vec_items c.survey_line.new.ases) e.answer in
     shorter bs (left c.survey_line.new.reader) (long_line bs start.0 start.1) (e.moved refl)
 
@@ -51,7 +51,7 @@ loop-reader-smaller c = let less : length (left c.survey_line.new.reader) + 41 �
 
 pub loop-reader-preserved : goal.loop-reader-preserved
 loop-reader-preserved c =
-    let e = c.in-default.ensures in
+    let e = c.in_default.ensures in
     let bs = left c.loop-reader.reader in
     let now_read = vec_items c.survey_line.new.ases in (
       e.room,

@@ -6,7 +6,7 @@ use Rattle.routes.specs.Walks.{counted, more}
 use Rattle.routes.proofs.Walked.{next_below, passed_none, passed_more, passed_there, passed_false, passed_long, links_refused, links_short, links_fit}
 use Rattle.routes.proofs.walk.count_links.Given as given
 use Rattle.routes.proofs.walk.count_links.Goals as goal
-use Rattle.routes.proofs.walk.count_links.Goals.{After-branch-links, then-count-most, else-count-most+then-place-to, else-count-most+else-place-to+in-default}
+use Rattle.routes.proofs.walk.count_links.Goals.{After-branch-links, then-count-most, else-count-most+then-place-to, else-count-most+else-place-to+in_default}
 
 pub loop-count-init : goal.loop-count-init
 loop-count-init g c =
@@ -46,8 +46,8 @@ walked g c =
       | then-count-most w ↦ passed_long m net entries c.args.to whole (2 * length roster) l.place l.class l.count l.invariant.1 (omega (arith, most, w.if-count-most.true)) ∙ sym (ap (more 1) w.walked-is)
       | else-count-most+then-place-to w ↦
           passed_there m net entries c.args.to whole (2 * length roster) l.place l.class l.count l.invariant.1 (omega (arith, most, w.if-count-most.false)) w.if-place-to.true ∙ sym (ap (more 1) w.walked-is)
-      | else-count-most+else-place-to+in-default w ↦
-          passed_false m net entries c.args.to whole (2 * length roster) l.place l.class l.count l.invariant.1 (omega (arith, most, w.if-count-most.false)) w.if-place-to.false (sym w.step_on.ensures ∙ w.in-default.is) ∙ sym (ap (more 1) w.walked-is)
+      | else-count-most+else-place-to+in_default w ↦
+          passed_false m net entries c.args.to whole (2 * length roster) l.place l.class l.count l.invariant.1 (omega (arith, most, w.if-count-most.false)) w.if-place-to.false (sym w.step_on.ensures ∙ w.in_default.is) ∙ sym (ap (more 1) w.walked-is)
     ]
 
 pub returns-in_err-links : goal.returns-in_err-links

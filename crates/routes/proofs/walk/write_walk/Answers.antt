@@ -6,15 +6,15 @@ use Rattle.routes.specs.Walks.{Written}
 use Rattle.routes.proofs.Walked.{next_below, written_more, written_stuck, written_last}
 use Rattle.routes.proofs.walk.write_walk.Goals as goal
 
-pub returns-in-default : goal.returns-in-default
-returns-in-default g c =
+pub returns-in_default : goal.returns-in_default
+returns-in_default g c =
     let m = g.M.Measure.measure in
     let s = c.args.store.now in
     let roster = g.S.Store.roster s in
     let net = net_of roster (g.S.Store.book s) in
     let entries = c.args.entries.now in
     let l = c.loop-count in
-    let none : next_of m net entries c.args.to l.place l.class ≡ None = sym c.step_on.ensures ∙ c.in-default.is in
+    let none : next_of m net entries c.args.to l.place l.class ≡ None = sym c.step_on.ensures ∙ c.in_default.is in
     absurd (written_stuck m net entries c.args.to (walk m net entries (2 * length roster) c.args.to c.args.from Home) c.args.links c.args.list.now l.place l.class l.count l.list l.invariant.1 (omega arith) none)
 
 pub loop-count-preserved : goal.loop-count-preserved

@@ -6,27 +6,27 @@ use Rattle.runs.specs.Runs.{Ran}
 use Rattle.runs.proofs.Ran.{ran_none, made_more, broke_off, made_all}
 use Rattle.runs.proofs.replay.replay.Given as given
 use Rattle.runs.proofs.replay.replay.Goals as goal
-use Rattle.runs.proofs.replay.replay.Goals.{In-ok-open}
+use Rattle.runs.proofs.replay.replay.Goals.{In_ok-open}
 
 -- the board before it is opened
-abbrev before : (g : given.Over) (c : In-ok-open g) → Board g.row.M-Cost.Denot
+abbrev before : (g : given.Over) (c : In_ok-open g) → Board g.row.M-Cost.Denot
 before g c = let s = c.args.store.now in board_of (g.S.Store.roster s) (g.S.Store.book s) (Some (g.S.EditableStore.limit s)) c.args.table.now
 
 -- its memory is large enough, and no call was made yet
-opened : (g : given.Over) (c : In-ok-open g) →
+opened : (g : given.Over) (c : In_ok-open g) →
     let b = before g c in
     (small (length b.roster) b.entries b.marks ≡ false) × Ran g.M.Measure.measure (fresh b) (board_of b.roster b.book b.limit c.open.new.table) [] []
 opened g c = let t = c.open.new.table in ran_none g.M.Measure.measure (before g c) t.entries.now t.marks.now c.in_ok-open.ensures.opens
 
 pub loop-call-init : goal.loop-call-init
-loop-call-init g c = (refl, refl, simp c.new-replies.ensures.items (opened g (goal.at.loop-call-init g c).In-ok-open).1)
+loop-call-init g c = (refl, refl, simp c.new-replies.ensures.items (opened g (goal.at.loop-call-init g c).In_ok-open).1)
 
 pub returns-in_err-reply : goal.returns-in_err-reply
 returns-in_err-reply g c =
     let o = c.in_ok-open.ensures.named in
     let i = c.loop-call.invariant in
     let q = c.in_err-reply.ensures in
-    let start = (goal.at.returns-in_err-reply g c).In-ok-open in
+    let start = (goal.at.returns-in_err-reply g c).In_ok-open in
     record {
       named = (q.named.0 ∙ i.0 ∙ o.0, q.named.1 ∙ i.1 ∙ o.1);
       replays = broke_off g.M.Measure.measure c.args.calls.now (before g start) c.loop-call.call-index (opened g start).0 i.2 q.plays.1 (err_from_is_err_and c.from_residual-in_err-reply.result c.from_residual-in_err-reply.ensures.1);
@@ -38,7 +38,7 @@ returns-in_err-push g c =
     let o = c.in_ok-open.ensures.named in
     let i = c.loop-call.invariant in
     let q = c.in_ok-reply.ensures in
-    let start = (goal.at.returns-in_err-push g c).In-ok-open in
+    let start = (goal.at.returns-in_err-push g c).In_ok-open in
     record {
       named = (q.named.0 ∙ i.0 ∙ o.0, q.named.1 ∙ i.1 ∙ o.1);
       replays = broke_off m c.args.calls.now (before g start) (c.loop-call.call-index + 1) (opened g start).0 (made_more m c.args.calls.now _ c.loop-call-test.true i.2 q.plays) refl (err_from_is_err_and c.from_residual-in_err-push.result c.from_residual-in_err-push.ensures.1);
@@ -54,5 +54,5 @@ pub returns : goal.returns
 returns g c =
     let o = c.in_ok-open.ensures.named in
     let i = c.loop-call.invariant in
-    let start = (goal.at.returns g c).In-ok-open in
+    let start = (goal.at.returns g c).In_ok-open in
     record { named = (i.0 ∙ o.0, i.1 ∙ o.1); replays = made_all g.M.Measure.measure c.args.calls.now (before g start) c.loop-call.replies (opened g start).0 c.loop-call-test.false i.2 }

@@ -12,21 +12,21 @@ use Rattle.settle.proofs.Lifts.{has_room}
 use Rattle.settle.proofs.Linked.{Over, as_known, within, pass_none, pass_far, end_known, class_inside, class_few, class_ready, class_told, both_told}
 use Rattle.settle.proofs.links.relax_link.Goals as goal
 
-pub returns-in-default : goal.returns-in-default
-returns-in-default g c =
+pub returns-in_default : goal.returns-in_default
+returns-in_default g c =
     let roster = g.S.Store.roster c.args.store.now in
-    absurd (none_some (sym c.as_at.ensures ∙ c.in-default.is) (at_known roster c.args.from.place 0 c.requires.known))
+    absurd (none_some (sym c.as_at.ensures ∙ c.in_default.is) (at_known roster c.args.from.place 0 c.requires.known))
 
-pub returns-in-default-link_at : goal.returns-in-default-link_at
-returns-in-default-link_at g c =
+pub returns-in_default-link_at : goal.returns-in_default-link_at
+returns-in_default-link_at g c =
     let s = c.args.store.now in
     let roster = g.S.Store.roster s in
     let from = c.args.from in
     let w = c.args.waiting.now in
-    record { after = λ d q r. pass_none g.M.Measure.measure g.met.M.Measure.laws roster (g.S.Store.book s) (g.met.S.Store.sound s) d (get_or roster from.place 0) from.class from.cost q c.args.spot (sym c.link_at.ensures ∙ c.in-default-link_at.is) c.args.column.now (held w) (length (memory w)) r }
+    record { after = λ d q r. pass_none g.M.Measure.measure g.met.M.Measure.laws roster (g.S.Store.book s) (g.met.S.Store.sound s) d (get_or roster from.place 0) from.class from.cost q c.args.spot (sym c.link_at.ensures ∙ c.in_default-link_at.is) c.args.column.now (held w) (length (memory w)) r }
 
-pub returns-in-default-other_end : goal.returns-in-default-other_end
-returns-in-default-other_end g c =
+pub returns-in_default-other_end : goal.returns-in_default-other_end
+returns-in_default-other_end g c =
     let s = c.args.store.now in
     let roster = g.S.Store.roster s in
     let from = c.args.from in
@@ -34,11 +34,11 @@ returns-in-default-other_end g c =
     let number = as_known roster from.place c.in-Some.number c.requires.known (sym c.as_at.ensures ∙ c.in-Some.is) in
     let l = c.in-Some-link_at.link in
     let stands : at (g.S.Store.book s) c.args.spot ≡ Some l = sym c.link_at.ensures ∙ c.in-Some-link_at.is in
-    let far : far_end l (get_or roster from.place 0) ≡ None = ap (far_end l) (sym number) ∙ sym c.other_end.ensures ∙ c.in-default-other_end.is in
+    let far : far_end l (get_or roster from.place 0) ≡ None = ap (far_end l) (sym number) ∙ sym c.other_end.ensures ∙ c.in_default-other_end.is in
     record { after = λ d q r. pass_far g.M.Measure.measure g.met.M.Measure.laws roster (g.S.Store.book s) (g.met.S.Store.sound s) d (get_or roster from.place 0) from.class from.cost q c.args.spot l stands far c.args.column.now (held w) (length (memory w)) r }
 
-pub returns-in-default-place_of : goal.returns-in-default-place_of
-returns-in-default-place_of g c =
+pub returns-in_default-place_of : goal.returns-in_default-place_of
+returns-in_default-place_of g c =
     let s = c.args.store.now in
     let roster = g.S.Store.roster s in
     let from = c.args.from in
@@ -47,7 +47,7 @@ returns-in-default-place_of g c =
     let stands : at (g.S.Store.book s) c.args.spot ≡ Some l = sym c.link_at.ensures ∙ c.in-Some-link_at.is in
     let end : ℕ = c.in-Some-other_end.end in
     let far : far_end l (get_or roster from.place 0) ≡ Some (end, c.in-Some-other_end.relation) = ap (far_end l) (sym number) ∙ sym c.other_end.ensures ∙ c.in-Some-other_end.is in
-    absurd (end_known g.M.Measure.measure g.met.M.Measure.laws roster (g.S.Store.book s) (g.met.S.Store.sound s) 0 (get_or roster from.place 0) from.class from.cost (λ x y. None) c.args.spot l stands end c.in-Some-other_end.relation far (sym c.place_of.ensures ∙ c.in-default-place_of.is))
+    absurd (end_known g.M.Measure.measure g.met.M.Measure.laws roster (g.S.Store.book s) (g.met.S.Store.sound s) 0 (get_or roster from.place 0) from.class from.cost (λ x y. None) c.args.spot l stands end c.in-Some-other_end.relation far (sym c.place_of.ensures ∙ c.in_default-place_of.is))
 
 pub extend-offer-requires : goal.extend-offer-requires
 extend-offer-requires g c =

@@ -95,5 +95,5 @@ returns g c =
     let column = c.loop-slot.column in
     let w = c.loop-slot.waiting in
     let w1 = c.take.new.self in
-    let none : Take m.less (held w) (held w1) (room w) (room w1) (memory w) (memory w1) None = c.in-default.ensures.after in
+    let none : Take m.less (held w) (held w1) (room w) (room w1) (memory w) (memory w1) None = c.in_default.ensures.after in
     record { after = λ d h. settled m laws roster book sound d column (held w) (length (memory w)) (c.loop-slot.invariant d h) none.answer }
