@@ -6,7 +6,8 @@ use Rattle.network.specs.Books.{link_of}
 use Rattle.stores.specs.declared.rows.memory.RowStore.{RowStore}
 use Rattle.stores.specs.Ranks.{row_of}
 use Rattle.stores.specs.Rows.{row_roster, row_book}
-use Rattle.stores.proofs.Ranks.{Standing, Absent, Cut, cut, book_in_order, find_standing, find_absent}
+use Rattle.stores.specs.RanksLemmas.{book_in_order}
+use Rattle.stores.proofs.Ranks.{Standing, Absent, Cut, cut, find_standing, find_absent}
 
 module _ (s : RowStore) where
   pub book_length : length (row_book s) ≡ s.used

@@ -15,56 +15,15 @@ use Rattle.network.proofs.Options.{some_from}
 use Rattle.network.proofs.Rising.{stands_among, place_stands}
 use Rattle.network.proofs.Books.{Earlier, earlier_before, earlier_not_before, Apart, apart_earlier, apart_later, added_between, find_none, find_here, recosted_here, without_here}
 use Rattle.stores.specs.Ranks.{is_proper, before_all, is_book, one_on, less, row_of}
-use Rattle.stores.specs.CellsLemmas.{limits_from}
-
-known_among : (roster : List ℕ) (a : ℕ) → is_some (place roster a) ≡ true → Among a roster
-known_among roster a e =
-    let i = some_from (place roster a) e in
-    let there = place_stands roster a i.0 i.1 in
-    subst (λ x. Among x roster) there.is (stands_among roster i.0 there.within)
+use Rattle.stores.specs.RanksLemmas.{Parts, parts, book_in_order}
 
 module _ (roster : List ℕ) where
-  proper : (l : Link) → is_proper roster l ≡ true → Proper roster l
-  proper l e =
-      let fine = in_limits l.figures.delay && in_limits l.figures.width in
-      let low = is_some (place roster l.low) in
-      let high = is_some (place roster l.high) in
-      let a = and_parts (ltb l.low l.high) (low && (high && fine)) e in
-      let b = and_parts low (high && fine) a.1 in
-      let c = and_parts high fine b.1 in
-      record { ordered = ltb-true l.low l.high a.0; low_known = known_among roster l.low b.0; high_known = known_among roster l.high c.0; limits = limits_from l.figures c.1 }
-
-  -- the parts of a book: its first link is proper, stands before the others, and they are a book
-  pub record Parts (l : Link) (ls : List Link) : Type 0 where
-    pub fine : is_proper roster l ≡ true
-    pub first : before_all l ls ≡ true
-    pub rest : is_book roster ls ≡ true
-
-  pub parts : (l : Link) (ls : List Link) → is_book roster (l ∷ ls) ≡ true → Parts l ls
-  parts l ls e =
-      let a = and_parts (is_proper roster l) (before_all l ls && is_book roster ls) e in
-      let b = and_parts (before_all l ls) (is_book roster ls) a.1 in
-      record { fine = a.0; first = b.0; rest = b.1 }
-
-  from_parts : (l : Link) (ls : List Link) → Parts l ls → is_book roster (l ∷ ls) ≡ true
+  from_parts : (l : Link) (ls : List Link) → Parts roster l ls → is_book roster (l ∷ ls) ≡ true
   from_parts l ls p = and_from (is_proper roster l) (before_all l ls && is_book roster ls) p.fine (and_from (before_all l ls) (is_book roster ls) p.first p.rest)
-
-  pub book_proper : (book : List Link) → is_book roster book ≡ true → All (Proper roster) book
-  book_proper [] e = tt
-  book_proper (l ∷ ls) e = let p = parts l ls e in (proper l p.fine, book_proper ls p.rest)
-
-  -- what `before-all` says of each link
-  each_before : (l : Link) (ls : List Link) → before_all l ls ≡ true → All (λ k. before l k ≡ true) ls
-  each_before l [] e = tt
-  each_before l (k ∷ ks) e = let p = and_parts (before l k) (before_all l ks) e in (p.0, each_before l ks p.1)
 
   before_each : (l : Link) (ls : List Link) → All (λ k. before l k ≡ true) ls → before_all l ls ≡ true
   before_each l [] h = refl
   before_each l (k ∷ ks) h = and_from (before l k) (before_all l ks) h.0 (before_each l ks h.1)
-
-  pub book_in_order : (book : List Link) → is_book roster book ≡ true → InOrder book
-  book_in_order [] e = tt
-  book_in_order (l ∷ ls) e = let p = parts l ls e in (each_before l ls p.first, book_in_order ls p.rest)
 
   -- a book with one link more ..
   before_inserted : (l : Link) (ls : List Link) (i : ℕ) (new : Link) → before_all l ls ≡ true → before l new ≡ true → before_all l (insert ls i new) ≡ true
@@ -79,7 +38,7 @@ module _ (roster : List ℕ) where
   book_inserted book zero new e fine fore rest = from_parts new book (record { fine = fine; first = before_each new book rest; rest = e })
   book_inserted [] (suc i) new e fine fore rest = from_parts new [] (record { fine = fine; first = refl; rest = refl })
   book_inserted (l ∷ ls) (suc i) new e fine fore rest =
-      let p = parts l ls e in
+      let p = parts roster l ls e in
       from_parts l (insert ls i new) (record { fine = p.fine; first = before_inserted l ls i new p.first fore.0; rest = book_inserted ls i new p.rest fine fore.1 rest })
 
   -- .. with one link less ..
@@ -94,9 +53,9 @@ module _ (roster : List ℕ) where
   pub book_removed : (book : List Link) (i : ℕ) → is_book roster book ≡ true → is_book roster (remove book i) ≡ true
   book_removed [] zero e = refl
   book_removed [] (suc i) e = refl
-  book_removed (l ∷ ls) zero e = (parts l ls e).rest
+  book_removed (l ∷ ls) zero e = (parts roster l ls e).rest
   book_removed (l ∷ ls) (suc i) e =
-      let p = parts l ls e in
+      let p = parts roster l ls e in
       from_parts l (remove ls i) (record { fine = p.fine; first = before_removed l ls i p.first; rest = book_removed ls i p.rest })
 
 -- .. and with other figures

@@ -4,3 +4,4 @@ pub mod Ranks
 pub mod Refusals
 pub mod Rows
 pub mod CellsLemmas
+pub mod RanksLemmas

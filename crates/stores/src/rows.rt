@@ -3,6 +3,7 @@ ghost use Rattle.std.specs.Prelude.{◌≡◌, min, max, [], length};
 ghost use Rattle.network.specs.Edits.{Links, Recosts, Unlinks};
 ghost use Rattle.network.specs.Rosters.{roster_from};
 ghost use Rattle.stores.specs.Ranks.{row_of, memory_with};
+ghost use Rattle.stores.specs.RanksLemmas.{book_proper, book_in_order};
 ghost use Rattle.stores.specs.Rows.{row_roster, row_book, row_limit};
 
 use crate::entries::{check_figures, check_pair, entered, relation_named};
@@ -49,6 +50,14 @@ impl<'a, 'b> Store for RowStore<'a, 'b> {
     ghost roster = { row_roster };
 
     ghost book = { row_book };
+
+    ghost sound = { λ s.
+        record {
+          few = s.few;
+          rising = s.rising;
+          proper = book_proper (row_roster s) (row_book s) s.sorted;
+          in_order = book_in_order (row_roster s) (row_book s) s.sorted;
+        } };
 
     fn as_count(&self) -> usize {
         self.roster.len()

@@ -15,11 +15,11 @@ returns-in_err-cell c =
     stopped [] (pair_causes (grid_roster s) c.args.first c.args.second []) _ (recosted (grid_book s) (min c.args.first c.args.second) (max c.args.first c.args.second) c.args.figures) (grid_roster s) (grid_book s) 276 c.in_err-cell.field-0.0
     (cell_of (grid_roster s) c.args.first c.args.second) c.from_residual.result refl c.in_err-cell.ensures.answer (p.1 ∙ ap Err p.2)
 
-pub returns-in-default : goal.returns-in-default
-returns-in-default c =
+pub returns-in_default : goal.returns-in_default
+returns-in_default c =
     let s = c.args.self.now in
     let here = spot s c.args.first c.args.second c.in_ok-cell.cell c.in_ok-cell.ensures.answer in
-    recost_missing s c.args.first c.args.second c.in_ok-cell.cell here c.args.figures c.in_ok-check_figures.field-0 c.in_ok-check_figures.ensures c.in-default.is
+    recost_missing s c.args.first c.args.second c.in_ok-cell.cell here c.args.figures c.in_ok-check_figures.field-0 c.in_ok-check_figures.ensures c.in_default.is
 
 pub put-requires : goal.put-requires
 put-requires c =

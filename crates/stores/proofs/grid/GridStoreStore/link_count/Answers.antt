@@ -4,8 +4,8 @@ use Rattle.stores.specs.Cells.{filled, row}
 use Rattle.stores.proofs.Tallies.{filled_length, row_split}
 use Rattle.stores.proofs.grid.GridStoreStore.link_count.Goals as goal
 
-pub overflow-add-count : goal.overflow-add-count
-overflow-add-count c =
+pub overflow_add-count : goal.overflow_add-count
+overflow_add-count c =
     let s = c.args.self.now in
     let i = c.loop-tally.tally-index in
     let tally = s.tallied i c.loop-tally-test.true in

@@ -4,7 +4,7 @@ use Rattle.network.specs.Rosters.{at}
 use Rattle.stores.specs.Cells.{filled}
 use Rattle.stores.specs.CellsLemmas.{filled_drop}
 use Rattle.stores.proofs.grid.rows.link_in.Goals as goal
-use Rattle.stores.proofs.grid.rows.link_in.Goals.{in-Some+else-left-eq0, in-default}
+use Rattle.stores.proofs.grid.rows.link_in.Goals.{in-Some+else-left-eq0, in_default}
 
 at_rest : {X : Type 0} (x : X) (xs : List X) (k : ℕ) → (k ≡ 0 → ⊥) → at (x ∷ xs) k ≡ at xs (k - 1)
 at_rest x xs zero h = absurd (h refl)
@@ -13,7 +13,7 @@ at_rest x xs (suc k) h = let e : k ≡ suc k - 1 = omega arith in ap (at xs) e
 pub returns-then-left-eq0 : goal.returns-then-left-eq0
 returns-then-left-eq0 c =
     let cells = c.args.cells.now in
-    let i = c.loop-cell.cell_index in
+    let i = c.loop-cell.cell-index in
     let l = c.in-Some.link in
     let within : i < length cells = omega arith in
     let step = filled_drop cells i (Some l) within c.in-Some.is in
@@ -22,7 +22,7 @@ returns-then-left-eq0 c =
 pub loop-cell-preserved : goal.loop-cell-preserved
 loop-cell-preserved c =
     let cells = c.args.cells.now in
-    let i = c.loop-cell.cell_index in
+    let i = c.loop-cell.cell-index in
     let left = c.loop-cell.left in
     let rest = filled (drop (i + 1) cells) in
     let within : i < length cells = omega arith in
@@ -31,11 +31,11 @@ loop-cell-preserved c =
           let l = w.in-Some.link in
           let step = filled_drop cells i (Some l) within w.in-Some.is in
           ap (at rest) w.left-is ∙ sym (at_rest l rest left w.if-left-eq0.false) ∙ sym (ap (λ b. at b left) step) ∙ c.loop-cell.invariant
-      | in-default w ↦ ap (at rest) w.left-is ∙ sym (ap (λ b. at b left) (filled_drop cells i None within w.in-default.is)) ∙ c.loop-cell.invariant
+      | in_default w ↦ ap (at rest) w.left-is ∙ sym (ap (λ b. at b left) (filled_drop cells i None within w.in_default.is)) ∙ c.loop-cell.invariant
     ]
 
 pub returns : goal.returns
 returns c =
     let cells = c.args.cells.now in
-    let past = at_drop_all (λ cs. at (filled cs) c.loop-cell.left) cells c.loop-cell.cell_index (omega arith) in
+    let past = at_drop_all (λ cs. at (filled cs) c.loop-cell.left) cells c.loop-cell.cell-index (omega arith) in
     sym past ∙ c.loop-cell.invariant

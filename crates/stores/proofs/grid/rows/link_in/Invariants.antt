@@ -5,4 +5,4 @@ use Rattle.stores.proofs.grid.rows.link_in.Given as goal
 
 -- the link that is looked for, among those that are left
 abbrev pub invariant-loop-cell : goal.invariant-loop-cell
-invariant-loop-cell l = at (filled (drop l.cell_index l.cells)) l.left ≡ at (filled l.cells) l.spot
+invariant-loop-cell l = at (filled (drop l.cell-index l.cells)) l.left ≡ at (filled l.cells) l.spot

@@ -9,7 +9,7 @@ use Rattle.stores.proofs.grid.rows.links_in.Goals.{then-is_some, else-is_some}
 pub loop-cell-preserved : goal.loop-cell-preserved
 loop-cell-preserved c =
     let cells = c.args.cells.now in
-    let i = c.loop-cell.cell_index in
+    let i = c.loop-cell.cell-index in
     let within : i < length cells = omega arith in
     let inv = c.loop-cell.invariant in
     elim c.if-is_some.branch [
@@ -26,5 +26,5 @@ loop-cell-preserved c =
 pub returns : goal.returns
 returns c =
     let cells = c.args.cells.now in
-    let past = at_drop_all (λ cs. length (filled cs)) cells c.loop-cell.cell_index (omega arith) in
+    let past = at_drop_all (λ cs. length (filled cs)) cells c.loop-cell.cell-index (omega arith) in
     omega (arith, past, c.loop-cell.invariant.1)

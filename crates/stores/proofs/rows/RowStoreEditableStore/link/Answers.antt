@@ -52,11 +52,11 @@ returns-in_err-check_figures c =
       same = refl;
     }
 
-pub returns-in-default : goal.returns-in-default
-returns-in-default c =
+pub returns-in_default : goal.returns-in_default
+returns-in_default c =
     let s = c.args.self.now in
     record {
-      edit = link_twice s c.args.first c.args.second c.in_ok-check_pair.field-0 c.in_ok-check_pair.ensures c.args.figures c.in_ok-check_figures.field-0 c.in_ok-check_figures.ensures c.args.relation c.in_ok-relation.relation c.in_ok-relation.ensures c.in-default.field-0 c.in-default.ensures;
+      edit = link_twice s c.args.first c.args.second c.in_ok-check_pair.field-0 c.in_ok-check_pair.ensures c.args.figures c.in_ok-check_figures.field-0 c.in_ok-check_figures.ensures c.args.relation c.in_ok-relation.relation c.in_ok-relation.ensures c.in_default.field-0 c.in_default.ensures;
       memory = kept_front s.rows.now s.used s.room;
       same = refl;
     }
@@ -76,15 +76,15 @@ insert_row-requires c =
     let free : s.used ≢ row_limit s = λ e. c.if-self-link_limit.false (e ∙ sym c.link_limit.ensures) in
     (row_room s c.args.first c.args.second c.in-Err.row c.in-Err.ensures, (row_left s free).0)
 
-pub invariant-of-self : goal.invariant-of-self
-invariant-of-self c =
+pub invariant_of-self : goal.invariant_of-self
+invariant_of-self c =
     let s = c.args.self.now in
     let free : s.used ≢ row_limit s = λ e. c.if-self-link_limit.false (e ∙ sym c.link_limit.ensures) in
     let moved = c.insert_row.ensures ∙ ap (λ l. memory_with (insert (row_book s) c.in-Err.row l) s.rows.now) c.entered.ensures in
     let room = row_left s free in
     let done = link_done s c.args.first c.args.second c.in_ok-check_pair.field-0 c.in_ok-check_pair.ensures c.args.figures c.in_ok-check_figures.field-0 c.in_ok-check_figures.ensures c.args.relation c.in_ok-relation.relation c.in_ok-relation.ensures c.in-Err.row c.in-Err.ensures free c.insert_row.new.rows moved in
     let long = done.long in
-    (s.few, (s.rising, (omega arith, (omega arith, (done.sorted, tt)))))
+    record { few = s.few; rising = s.rising; room = omega arith; limited = omega arith; sorted = done.sorted }
 
 pub returns : goal.returns
 returns c =

@@ -34,11 +34,11 @@ returns-in_err-check_figures c =
       same = refl;
     }
 
-pub returns-in-default : goal.returns-in-default
-returns-in-default c =
+pub returns-in_default : goal.returns-in_default
+returns-in_default c =
     let s = c.args.self.now in
     record {
-      edit = recost_missing s c.args.first c.args.second c.in_ok-check_pair.field-0 c.in_ok-check_pair.ensures c.args.figures c.in_ok-check_figures.field-0 c.in_ok-check_figures.ensures c.in-default.field-0 c.in-default.ensures;
+      edit = recost_missing s c.args.first c.args.second c.in_ok-check_pair.field-0 c.in_ok-check_pair.ensures c.args.figures c.in_ok-check_figures.field-0 c.in_ok-check_figures.ensures c.in_default.field-0 c.in_default.ensures;
       memory = kept_front s.rows.now s.used s.room;
       same = refl;
     }
@@ -46,15 +46,15 @@ returns-in-default c =
 pub bounds-self-row : goal.bounds-self-row
 bounds-self-row c = let h = row_used c.args.self.now c.args.first c.args.second c.in-Ok.row c.in-Ok.ensures in omega arith
 
-pub offset-bounds-self-row : goal.offset-bounds-self-row
-offset-bounds-self-row c = let h = row_used c.args.self.now c.args.first c.args.second c.in-Ok.row c.in-Ok.ensures in search rules
+pub offset_bounds-self-row : goal.offset_bounds-self-row
+offset_bounds-self-row c = let h = row_used c.args.self.now c.args.first c.args.second c.in-Ok.row c.in-Ok.ensures in search rules
 
-pub invariant-of-self : goal.invariant-of-self
-invariant-of-self c =
+pub invariant_of-self : goal.invariant_of-self
+invariant_of-self c =
     let s = c.args.self.now in
     let done = recost_done s c.args.first c.args.second c.in_ok-check_pair.field-0 c.in_ok-check_pair.ensures c.args.figures c.in_ok-check_figures.field-0 c.in_ok-check_figures.ensures c.in-Ok.row _ c.in-Ok.ensures in
     let room = s.room in
-    (s.few, (s.rising, (simp length-set room, (s.limited, (done.sorted, tt)))))
+    record { few = s.few; rising = s.rising; room = simp length-set room; limited = s.limited; sorted = done.sorted }
 
 pub returns : goal.returns
 returns c =

@@ -21,11 +21,11 @@ returns-in_err-check_pair c =
       same = refl;
     }
 
-pub returns-in-default : goal.returns-in-default
-returns-in-default c =
+pub returns-in_default : goal.returns-in_default
+returns-in_default c =
     let s = c.args.self.now in
     record {
-      edit = unlink_missing s c.args.first c.args.second c.in_ok-check_pair.field-0 c.in_ok-check_pair.ensures c.in-default.field-0 c.in-default.ensures;
+      edit = unlink_missing s c.args.first c.args.second c.in_ok-check_pair.field-0 c.in_ok-check_pair.ensures c.in_default.field-0 c.in_default.ensures;
       memory = kept_front s.rows.now s.used s.room;
       same = refl;
     }
@@ -35,11 +35,11 @@ remove_row-requires c =
     let s = c.args.self.now in
     (row_used s c.args.first c.args.second c.in-Ok.row c.in-Ok.ensures, s.room)
 
-pub overflow-sub-used : goal.overflow-sub-used
-overflow-sub-used c = let h = row_used c.args.self.now c.args.first c.args.second c.in-Ok.row c.in-Ok.ensures in omega arith
+pub overflow_sub-used : goal.overflow_sub-used
+overflow_sub-used c = let h = row_used c.args.self.now c.args.first c.args.second c.in-Ok.row c.in-Ok.ensures in omega arith
 
-pub invariant-of-self : goal.invariant-of-self
-invariant-of-self c =
+pub invariant_of-self : goal.invariant_of-self
+invariant_of-self c =
     let s = c.args.self.now in
     let h = row_used s c.args.first c.args.second c.in-Ok.row c.in-Ok.ensures in
     let fewer : s.used - 1 + 1 ≡ s.used = omega arith in
@@ -47,7 +47,7 @@ invariant-of-self c =
     let long = done.long in
     let room = s.room in
     let limited = s.limited in
-    (s.few, (s.rising, (omega arith, (omega arith, (done.sorted, tt)))))
+    record { few = s.few; rising = s.rising; room = omega arith; limited = omega arith; sorted = done.sorted }
 
 pub returns : goal.returns
 returns c =

@@ -16,4 +16,4 @@ loop-row-preserved c =
 
 pub returns : goal.returns
 returns c =
-    sym (row_end c.args.low c.args.high c.args.rows.now c.loop-row.row c.loop-row-test.false c.loop-row.auto.row_end) ∙ c.loop-row.invariant
+    sym (row_end c.args.low c.args.high c.args.rows.now c.loop-row.row c.loop-row-test.false c.loop-row.auto.row-end) ∙ c.loop-row.invariant

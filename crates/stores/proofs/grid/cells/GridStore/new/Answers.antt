@@ -22,14 +22,14 @@ loop-i-preserved c =
     let there : i < length numbers = omega arith in
     (omega arith, take_more_set numbers i (get_or roster i 0) there ∙ ap (λ ys. ys ++ get_or roster i 0 ∷ []) inv.1 ∙ sym (take_more roster i 0 c.loop-i-test.true))
 
-pub invariant-of-result : goal.invariant-of-result
-invariant-of-result c =
+pub invariant_of-result : goal.invariant_of-result
+invariant_of-result c =
     let roster = c.roster_of-roster.result.now in
     let is = sym c.roster_of-roster.ensures in
     let few : length roster ≤ 24 = subst (λ xs. length xs ≤ 24) is (from_few 24 c.args.ases.now) in
     let rising : climbs 0 roster ≡ true = subst (λ xs. climbs 0 xs ≡ true) is (from_rising 24 c.args.ases.now) in
     let all = copied c.loop-i.numbers roster c.loop-i.i c.loop-i-test.false c.loop-i.auto.i-end c.loop-i.invariant.1 in
-    (refl, (few, (ap (climbs 0) all ∙ rising, (refl, (tallied_empty, tt)))))
+    record { sized = refl; within = few; rising = ap (climbs 0) all ∙ rising; placed = refl; tallied = tallied_empty }
 
 pub returns : goal.returns
 returns c =
