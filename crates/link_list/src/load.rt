@@ -19,9 +19,9 @@ fn enter_line<S: EditableStore, C: Copy>(
     ensures named { (table.new.entries.ghost_name ≡ table.old.entries.ghost_name) × (table.new.marks.ghost_name ≡ table.old.marks.ghost_name) }
     ensures text { reader.new.text.now ≡ reader.old.text.now }
     ensures roster { S.Store.roster store.new ≡ S.Store.roster store.old }
-    ensures limit { limit store.new ≡ limit store.old }
+    ensures limit { S.limit store.new ≡ S.limit store.old }
     ensures entries { table.new.entries.now ≡ table.old.entries.now }
-    ensures enters { Enters (S.Store.roster store.old) (limit store.old) table.old.entries.now (left reader.old) (left reader.new) (S.Store.book store.old) (S.Store.book store.new) table.old.marks.now table.new.marks.now result }
+    ensures enters { Enters (S.Store.roster store.old) (S.limit store.old) table.old.entries.now (left reader.old) (left reader.new) (S.Store.book store.old) (S.Store.book store.new) table.old.marks.now table.new.marks.now result }
 {
     let line = reader.line()?;
     let figures = Figures {
@@ -47,9 +47,9 @@ pub fn load<S: EditableStore, C: Copy>(
 ) -> Result<usize, Fault>
     ensures named { (table.new.entries.ghost_name ≡ table.old.entries.ghost_name) × (table.new.marks.ghost_name ≡ table.old.marks.ghost_name) }
     ensures roster { S.Store.roster store.new ≡ S.Store.roster store.old }
-    ensures limit { limit store.new ≡ limit store.old }
+    ensures limit { S.limit store.new ≡ S.limit store.old }
     ensures entries { table.new.entries.now ≡ table.old.entries.now }
-    ensures loads { Loads (S.Store.roster store.old) (limit store.old) table.old.entries.now (S.Store.book store.new) table.new.marks.now result 0 text.now (S.Store.book store.old) table.old.marks.now }
+    ensures loads { Loads (S.Store.roster store.old) (S.limit store.old) table.old.entries.now (S.Store.book store.new) table.new.marks.now result 0 text.now (S.Store.book store.old) table.old.marks.now }
 {
     let mut reader = Reader::new(text);
     let mut entered = 0;

@@ -23,7 +23,7 @@ pub fn fill_table<S: EditableStore>(
     requires ases { S.Store.roster store.old ≡ ases.now }
     requires few { length ases.now ≤ 24 }
     requires empty { S.Store.book store.old ≡ [] }
-    requires limit { limit store.old ≡ 276 }
+    requires limit { S.limit store.old ≡ 276 }
     requires enough { small (length ases.now) table.old.entries.now table.old.marks.now ≡ false }
     requires unmarked { (j : ℕ) → slice_index table.old.marks.now j ≡ 0 }
     requires slots { 2 * length ases.now ≤ length work.old.waiting.now }

@@ -24,12 +24,12 @@ pub fn settle_all<S: Store>(
     work: &mut Work<'_, '_, u32>,
     ases: &[u32],
 ) -> Result<(), RouteRefusal>
-    requires all { ases.now ≡ roster store.now }
+    requires all { ases.now ≡ S.roster store.now }
     requires slots { 2 * length ases.now ≤ length work.old.waiting.now }
     requires numbers { 2 * length ases.now ≤ length work.old.numbers.now }
-    requires holds { Holds by_delay (roster store.now) (book store.now) [] table.old.entries.now table.old.marks.now }
+    requires holds { Holds by_delay (S.roster store.now) (S.book store.now) [] table.old.entries.now table.old.marks.now }
     ensures named { Lent table.old table.new work.old work.new }
-    ensures settled { (settled : List ℕ) × Holds by_delay (roster store.now) (book store.now) settled table.new.entries.now table.new.marks.now × ((a : ℕ) → Among a (roster store.now) → has settled a ≡ true) }
+    ensures settled { (settled : List ℕ) × Holds by_delay (S.roster store.now) (S.book store.now) settled table.new.entries.now table.new.marks.now × ((a : ℕ) → Among a (S.roster store.now) → has settled a ≡ true) }
 {
     for destination in ases {
         settle::<S, Delay>(store, table, work, *destination)?;
@@ -40,11 +40,11 @@ pub fn settle_all<S: Store>(
 // The route from one AS to another; zeros where there is no legal path.
 fn row_of<S: Store>(store: &S, table: &Table<'_, '_, u32>, source: u32, destination: u32) -> Row
     requires apart { source ≢ destination }
-    requires source { Among source (roster store.now) }
-    requires destination { Among destination (roster store.now) }
-    requires few { length (roster store.now) ≤ 24 }
-    requires settled { (settled : List ℕ) × Holds by_delay (roster store.now) (book store.now) settled table.now.entries.now table.now.marks.now × (has settled destination ≡ true) }
-    ensures { RowRight (net_of (roster store.now) (book store.now)) source destination result }
+    requires source { Among source (S.roster store.now) }
+    requires destination { Among destination (S.roster store.now) }
+    requires few { length (S.roster store.now) ≤ 24 }
+    requires settled { (settled : List ℕ) × Holds by_delay (S.roster store.now) (S.book store.now) settled table.now.entries.now table.now.marks.now × (has settled destination ≡ true) }
+    ensures { RowRight (net_of (S.roster store.now) (S.book store.now)) source destination result }
 {
     let mut list = [0u32; 48];
     match send::<S, Delay>(store, table, source, destination, &mut list) {
@@ -73,11 +73,11 @@ fn add_rows<S: Store>(
     source: u32,
     ases: &[u32],
 ) -> Result<(), AllocError>
-    requires all { ases.now ≡ roster store.now }
-    requires source { Among source (roster store.now) }
-    requires few { length (roster store.now) ≤ 24 }
-    requires settled { (settled : List ℕ) × Holds by_delay (roster store.now) (book store.now) settled table.now.entries.now table.now.marks.now × ((a : ℕ) → Among a (roster store.now) → has settled a ≡ true) }
-    ensures { OnOk result ((more : List RowT) × (rows.new.items ≡ rows.old.items ++ more) × RowsRight (net_of (roster store.now) (book store.now)) (pairs_of source ases.now) more) }
+    requires all { ases.now ≡ S.roster store.now }
+    requires source { Among source (S.roster store.now) }
+    requires few { length (S.roster store.now) ≤ 24 }
+    requires settled { (settled : List ℕ) × Holds by_delay (S.roster store.now) (S.book store.now) settled table.now.entries.now table.now.marks.now × ((a : ℕ) → Among a (S.roster store.now) → has settled a ≡ true) }
+    ensures { OnOk result ((more : List RowT) × (rows.new.items ≡ rows.old.items ++ more) × RowsRight (net_of (S.roster store.now) (S.book store.now)) (pairs_of source ases.now) more) }
 {
     for destination in ases {
         if *destination != source {
@@ -94,10 +94,10 @@ pub fn rows_of<S: Store>(
     table: &Table<'_, '_, u32>,
     ases: &[u32],
 ) -> Result<Vec<Row>, AllocError>
-    requires all { ases.now ≡ roster store.now }
-    requires few { length (roster store.now) ≤ 24 }
-    requires settled { (settled : List ℕ) × Holds by_delay (roster store.now) (book store.now) settled table.now.entries.now table.now.marks.now × ((a : ℕ) → Among a (roster store.now) → has settled a ≡ true) }
-    ensures { IfOk result (λ rows. RowsRight (net_of (roster store.now) (book store.now)) (pairs_from ases.now ases.now) rows.items) }
+    requires all { ases.now ≡ S.roster store.now }
+    requires few { length (S.roster store.now) ≤ 24 }
+    requires settled { (settled : List ℕ) × Holds by_delay (S.roster store.now) (S.book store.now) settled table.now.entries.now table.now.marks.now × ((a : ℕ) → Among a (S.roster store.now) → has settled a ≡ true) }
+    ensures { IfOk result (λ rows. RowsRight (net_of (S.roster store.now) (S.book store.now)) (pairs_from ases.now ases.now) rows.items) }
 {
     let mut rows = Vec::new(heap);
     for source in ases {

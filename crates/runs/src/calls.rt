@@ -27,7 +27,7 @@ pub fn edit_board<S: EditableStore, C: Copy>(
     edit: Edit,
 ) -> Result<(), BoardRefusal>
     ensures named { (table.new.entries.ghost_name ≡ table.old.entries.ghost_name) × (table.new.marks.ghost_name ≡ table.old.marks.ghost_name) }
-    ensures edits { BoardEdits ((TooSmallT, small (length (S.Store.roster store.old)) table.old.entries.now table.old.marks.now) ∷ told (causes_of (S.Store.roster store.old) (S.Store.book store.old) (limit store.old) edit)) (book_after (S.Store.book store.old) edit) (S.Store.roster store.old) (S.Store.roster store.new) (S.Store.book store.old) (S.Store.book store.new) (limit store.old) (limit store.new) table.old.entries.now table.new.entries.now table.old.marks.now table.new.marks.now result }
+    ensures edits { BoardEdits ((TooSmallT, small (length (S.Store.roster store.old)) table.old.entries.now table.old.marks.now) ∷ told (causes_of (S.Store.roster store.old) (S.Store.book store.old) (S.limit store.old) edit)) (book_after (S.Store.book store.old) edit) (S.Store.roster store.old) (S.Store.roster store.new) (S.Store.book store.old) (S.Store.book store.new) (S.limit store.old) (S.limit store.new) table.old.entries.now table.new.entries.now table.old.marks.now table.new.marks.now result }
 {
     match edit {
         Edit::Link {
@@ -64,7 +64,7 @@ pub fn settle_with<S: Store, M: Measure>(
     numbers: usize,
 ) -> Result<Result<usize, RouteRefusal>, AllocError>
     ensures named { (table.new.entries.ghost_name ≡ table.old.entries.ghost_name) × (table.new.marks.ghost_name ≡ table.old.marks.ghost_name) }
-    ensures settles { SettledWith measure (roster store.now) (book store.now) destination waiting numbers table.old.entries.now table.new.entries.now table.old.marks.now table.new.marks.now result }
+    ensures settles { SettledWith M.measure (S.roster store.now) (S.book store.now) destination waiting numbers table.old.entries.now table.new.entries.now table.old.marks.now table.new.marks.now result }
 {
     let slot = Slot {
         place: 0,
@@ -88,7 +88,7 @@ pub fn send_with<S: Store, M: Measure>(
     destination: u32,
     room: usize,
 ) -> Result<(Result<(M::Cost, usize), RouteRefusal>, Vec<u32>), AllocError>
-    ensures { SentWith (sending measure (net_of (roster store.now) (book store.now)) table.now.entries.now table.now.marks.now source destination room) room result }
+    ensures { SentWith (sending M.measure (net_of (S.roster store.now) (S.book store.now)) table.now.entries.now table.now.marks.now source destination room) room result }
 {
     let mut list = places(heap, room, 0)?;
     let answer = send::<S, M>(store, table, source, destination, list.as_mut_slice());

@@ -12,7 +12,7 @@ use measure::Measure;
 
 // The plain board wants one answer to a call, and no other.
 pub fn one_answer<M: Measure>() -> u8
-    ensures { OneAnswer measure }
+    ensures { OneAnswer M.measure }
 {
     0
 }

@@ -21,7 +21,7 @@ pub fn play_read<S: Store, M: Measure>(
     call: ReadCall,
 ) -> Result<Reply<M::Cost>, AllocError>
     ensures named { (table.new.entries.ghost_name ≡ table.old.entries.ghost_name) × (table.new.marks.ghost_name ≡ table.old.marks.ghost_name) }
-    ensures plays { (limit : OptionT ℕ) → Plays measure (board_of (roster store.now) (book store.now) limit table.old) (board_of (roster store.now) (book store.now) limit table.new) (ReadT call) result }
+    ensures plays { (limit : OptionT ℕ) → Plays M.measure (board_of (S.roster store.now) (S.book store.now) limit table.old) (board_of (S.roster store.now) (S.book store.now) limit table.new) (ReadT call) result }
 {
     match call {
         ReadCall::Settle {
@@ -59,7 +59,7 @@ pub fn play<S: EditableStore, M: Measure>(
     call: Call,
 ) -> Result<Reply<M::Cost>, AllocError>
     ensures named { (table.new.entries.ghost_name ≡ table.old.entries.ghost_name) × (table.new.marks.ghost_name ≡ table.old.marks.ghost_name) }
-    ensures plays { Plays measure (board_of (S.Store.roster store.old) (S.Store.book store.old) (SomeT (limit store.old)) table.old) (board_of (S.Store.roster store.new) (S.Store.book store.new) (SomeT (limit store.new)) table.new) call result }
+    ensures plays { Plays M.measure (board_of (S.Store.roster store.old) (S.Store.book store.old) (SomeT (S.limit store.old)) table.old) (board_of (S.Store.roster store.new) (S.Store.book store.new) (SomeT (S.limit store.new)) table.new) call result }
 {
     match call {
         Call::Edit(edit) => Ok(Reply::Edited(edit_board(store, table, edit))),

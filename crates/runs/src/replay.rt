@@ -20,7 +20,7 @@ pub fn replay<S: EditableStore, M: Measure>(
     calls: &[Call],
 ) -> Result<Vec<Reply<M::Cost>>, RunRefusal>
     ensures named { (table.new.entries.ghost_name ≡ table.old.entries.ghost_name) × (table.new.marks.ghost_name ≡ table.old.marks.ghost_name) }
-    ensures replays { Replays measure (board_of (S.Store.roster store.old) (S.Store.book store.old) (SomeT (limit store.old)) table.old) (board_of (S.Store.roster store.new) (S.Store.book store.new) (SomeT (limit store.new)) table.new) calls.now result }
+    ensures replays { Replays M.measure (board_of (S.Store.roster store.old) (S.Store.book store.old) (SomeT (S.limit store.old)) table.old) (board_of (S.Store.roster store.new) (S.Store.book store.new) (SomeT (S.limit store.new)) table.new) calls.now result }
 {
     open(store, table)?;
     let mut replies = Vec::new(heap);
@@ -39,7 +39,7 @@ pub fn replay_read<S: Store, M: Measure>(
     calls: &[ReadCall],
 ) -> Result<Vec<Reply<M::Cost>>, RunRefusal>
     ensures named { (table.new.entries.ghost_name ≡ table.old.entries.ghost_name) × (table.new.marks.ghost_name ≡ table.old.marks.ghost_name) }
-    ensures replays { Replays measure (board_of (roster store.now) (book store.now) NoneT table.old) (board_of (roster store.now) (book store.now) NoneT table.new) (map ReadT calls.now) result }
+    ensures replays { Replays M.measure (board_of (S.roster store.now) (S.book store.now) NoneT table.old) (board_of (S.roster store.now) (S.book store.now) NoneT table.new) (map ReadT calls.now) result }
 {
     open(store, table)?;
     let mut replies = Vec::new(heap);

@@ -6,9 +6,9 @@ pub loop-pad-preserved : goal.loop-pad-preserved
 loop-pad-preserved c =
     let was = string_bytes c.args.text.now in
     let n = string_len c.in_ok-digits.digits in
-    let i = c.loop-pad.-pad in
+    let i = c.loop-pad._pad in
     let pushed = c.in_ok-push.ensures in
-    let more : (i - n) + 1 ≡ (i + 1) - n = omega (arith, c.loop-pad.auto.-pad, c.len-pad.ensures) in (
+    let more : (i - n) + 1 ≡ (i + 1) - n = omega (arith, c.loop-pad.auto._pad, c.len-pad.ensures) in (
       omega arith,
       pushed.bytes ∙
           (ap (λ ds. string_bytes c.loop-pad.text ++ ds) (pushed.ascii (omega arith)) ∙
@@ -24,9 +24,9 @@ returns c =
     let k = c.args.number in
     let made = c.in_ok-digits.ensures.ok in
     let long : n ≡ length (decimal k) = digits.bytes.ok.0 ∙ ap length made in
-    let pads : c.loop-pad.-pad - n ≡ 10 - length (decimal k) = omega (arith, long, c.loop-pad.invariant.0, c.loop-pad.auto.-pad, c.len-pad.ensures, c.loop-pad-test.false) in
+    let pads : c.loop-pad._pad - n ≡ 10 - length (decimal k) = omega (arith, long, c.loop-pad.invariant.0, c.loop-pad.auto._pad, c.len-pad.ensures, c.loop-pad-test.false) in
     let pushed = c.in_ok-push_str.ensures.bytes in
     pushed ∙
     (ap (λ ds. string_bytes c.loop-pad.text ++ ds) (c.as_str.ensures.value ∙ made) ∙
     (ap (λ bs. bs ++ decimal k) c.loop-pad.invariant.1 ∙
-    (append_assoc was (replicate (c.loop-pad.-pad - n) 32) (decimal k) ∙ ap (λ p. was ++ (replicate p 32 ++ decimal k)) pads)))
+    (append_assoc was (replicate (c.loop-pad._pad - n) 32) (decimal k) ∙ ap (λ p. was ++ (replicate p 32 ++ decimal k)) pads)))

@@ -16,7 +16,7 @@ returns g c =
     let sends = λ (room : ℕ). sending g.M.Measure.measure (net_of (g.S.Store.roster store) (g.S.Store.book store)) table.entries.now table.marks.now c.args.source c.args.destination room in
     let zeros : slice ≡ replicate c.args.room 0 = c.as_mut_slice.ensures.value ∙ c.in_ok-list.ensures in
     let long : length slice ≡ c.args.room = ap length zeros ∙ length-replicate c.args.room 0 in
-    let list : List ℕ = c.send_answer.new.list in (
-      c.send_answer.ensures.answer ∙ ap (λ k. send_answer (sends k)) long,
-      front c.in_ok-list.list.len list _ (c.send_answer.auto.list ∙ c.as_mut_slice.ensures.len) ∙ c.send_answer.ensures.list ∙ ap (λ k. send_list slice (sends k)) long ∙ ap (λ xs. send_list xs (sends c.args.room)) zeros,
+    let list : List ℕ = c.send-answer.new.list in (
+      c.send-answer.ensures.answer ∙ ap (λ k. send_answer (sends k)) long,
+      front c.in_ok-list.list.len list _ (c.send-answer.auto.list ∙ c.as_mut_slice.ensures.len) ∙ c.send-answer.ensures.list ∙ ap (λ k. send_list slice (sends k)) long ∙ ap (λ xs. send_list xs (sends c.args.room)) zeros,
     )

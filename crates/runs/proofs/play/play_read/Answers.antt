@@ -16,12 +16,12 @@ returns-in-Hop g c =
           let s = c.args.store.now in
           let b = board_of (g.S.Store.roster s) (g.S.Store.book s) limit c.args.table.now in
           let h = c.in-Hop in
-          subst (λ call. Played m p b (calls.Read call) (Hopped c.hop_answer.result)) (sym h.is)
-          (hop_played m b p stands g.met.M.Measure.laws (g.met.S.Store.sound s) h.source h.class h.destination c.hop_answer.result c.hop_answer.ensures);
+          subst (λ call. Played m p b (calls.Read call) (Hopped c.hop-answer.result)) (sym h.is)
+          (hop_played m b p stands g.met.M.Measure.laws (g.met.S.Store.sound s) h.source h.class h.destination c.hop-answer.result c.hop-answer.ensures);
     }
 
-pub returns-in_ok-answer-2 : goal.returns-in_ok-answer-2
-returns-in_ok-answer-2 g c =
+pub returns-in_ok-answer-in-Send : goal.returns-in_ok-answer-in-Send
+returns-in_ok-answer-in-Send g c =
     record {
       named = (refl, refl);
       plays = λ limit p stands.
@@ -29,14 +29,14 @@ returns-in_ok-answer-2 g c =
           let s = c.args.store.now in
           let b = board_of (g.S.Store.roster s) (g.S.Store.book s) limit c.args.table.now in
           let h = c.in-Send in
-          let a = c.in_ok-answer-2 in
+          let a = c.in_ok-answer-in-Send in
           subst (λ call. Played m p b (calls.Read call) (Sent a.answer a.list)) (sym h.is)
           (send_played m b p stands g.met.M.Measure.laws (g.met.S.Store.sound s) h.source h.destination h.room a.answer a.list a.ensures.0 a.ensures.1);
     }
 
-pub returns-in_ok-answer : goal.returns-in_ok-answer
-returns-in_ok-answer g c =
-    let a = c.in_ok-answer in
+pub returns-in_ok-answer-in-Settle : goal.returns-in_ok-answer-in-Settle
+returns-in_ok-answer-in-Settle g c =
+    let a = c.in_ok-answer-in-Settle in
     record {
       named = a.ensures.named;
       plays = λ limit p stands.
@@ -49,9 +49,9 @@ returns-in_ok-answer g c =
           (settle_played m b p stands (g.met.S.Store.sound s) h.destination h.waiting h.numbers then.entries.now then.marks.now a.answer a.ensures.settles);
     }
 
-pub returns-in_err-answer : goal.returns-in_err-answer
-returns-in_err-answer g c =
-    let a = c.in_err-answer.ensures in
+pub returns-in_err-answer-in-Settle : goal.returns-in_err-answer-in-Settle
+returns-in_err-answer-in-Settle g c =
+    let a = c.in_err-answer-in-Settle.ensures in
     record {
       named = a.named;
       plays = λ limit.
@@ -61,12 +61,12 @@ returns-in_err-answer g c =
           not_played g.M.Measure.measure b then.entries.now then.marks.now (calls.Read c.args.call) a.settles.0 a.settles.1 (subst (λ call. Brings (calls.Read call)) (sym c.in-Settle.is) tt) (err_from_is_err_and c.from_residual.result c.from_residual.ensures.1);
     }
 
-pub returns-in_err-answer-2 : goal.returns-in_err-answer-2
-returns-in_err-answer-2 g c =
+pub returns-in_err-answer-in-Send : goal.returns-in_err-answer-in-Send
+returns-in_err-answer-in-Send g c =
     record {
       named = (refl, refl);
       plays = λ limit.
           let s = c.args.store.now in
           let b = board_of (g.S.Store.roster s) (g.S.Store.book s) limit c.args.table.now in
-          not_played g.M.Measure.measure b b.entries b.marks (calls.Read c.args.call) refl refl (subst (λ call. Brings (calls.Read call)) (sym c.in-Send.is) tt) (err_from_is_err_and c.from_residual-in_err-answer-2.result c.from_residual-in_err-answer-2.ensures.1);
+          not_played g.M.Measure.measure b b.entries b.marks (calls.Read c.args.call) refl refl (subst (λ call. Brings (calls.Read call)) (sym c.in-Send.is) tt) (err_from_is_err_and c.from_residual-in_err-answer-in-Send.result c.from_residual-in_err-answer-in-Send.ensures.1);
     }
