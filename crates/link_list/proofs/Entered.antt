@@ -1,5 +1,5 @@
 -- What the board's answer to a line's link call says of the load. Assumes nothing.
-use Rattle.std.proofs.Common.{◌≡◌, ℕ, List, length, drop, Some, None, Ok, Err, Result, sym, refl, ap, ◌∙◌}
+use Rattle.std.proofs.Common.{◌≡◌, ℕ, List, length, drop, Ok, Err, Result, refl, ap, ◌∙◌}
 use Rattle.network.specs.declared.types.Link.{Link}
 use Rattle.network.specs.Edits.{unless}
 use Rattle.network.proofs.Answered.{cause_of, no_cause_of}

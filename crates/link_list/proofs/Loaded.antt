@@ -1,17 +1,15 @@
 -- One line more of a load. Assumes nothing.
-use Rattle.std.proofs.Common.{◌≡◌, ℕ, ◌+◌, ◌≤◌, true, false, List, [], ◌∷◌, length, drop, Some, None, Ok, Err, Result, sym, refl, ap, ◌∙◌, subst, arith}
+use Rattle.std.proofs.Common.{◌≡◌, ℕ, ◌+◌, ◌≤◌, true, false, List, [], ◌∷◌, length, drop, Ok, Err, Result, refl, ap, ◌∙◌, subst, arith}
 use Rattle.std.proofs.lemmas.Bool.{both_ways}
 use Rattle.network.specs.declared.types.Link.{Link}
 use Rattle.network.specs.Causes.{first_cause}
 use Rattle.table.specs.declared.types.Entry.{Entry}
-use Rattle.board.specs.Edits.{cleared}
 use Rattle.link_text.specs.declared.types.Line.{Line}
 use Rattle.link_text.specs.declared.types.TextFault.{TextFault}
 use Rattle.link_text.specs.Numerals.{none}
 use Rattle.link_text.proofs.Lines.{long_line}
 use Rattle.link_text.specs.Answers.{line_answer, start_answer, and_then}
 use Rattle.link_list.specs.declared.types.Cause.{Cause}
-use Rattle.link_list.specs.declared.types.Cause.TheVariants.{Text, Board}
 use Rattle.link_list.specs.declared.types.Fault.{Fault}
 use Rattle.link_list.specs.Loads.{fault, with_line, line_causes, Enters, line_malformed, line_refused, line_entered, Loads, malformed, refused, enters}
 

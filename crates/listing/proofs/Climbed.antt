@@ -1,5 +1,5 @@
 -- The ASes that the first pass finds are a roster. Assumes nothing.
-use Rattle.std.proofs.Common.{◌≡◌, ℕ, zero, suc, ◌+◌, ◌<◌, ◌≤◌, Bool, true, false, cond, ◌&&◌, ◌||◌, eqb, ltb, leb, ◌⊎◌, List, [], ◌∷◌, length, drop, Ok, Err, Result, sym, refl, ap, ◌∙◌, subst, inl, inr, ⊎_elim, arith}
+use Rattle.std.proofs.Common.{◌≡◌, ℕ, ◌<◌, ◌≤◌, Bool, true, false, cond, ◌&&◌, ◌||◌, eqb, ltb, leb, List, [], ◌∷◌, length, drop, Ok, Err, Result, sym, refl, subst, arith}
 use Rattle.std.proofs.lemmas.Bool.{and_parts, and_from, lt-ltb, ltb-true, ltb-false, eqb-false, le-leb, both_ways, cond-true}
 use Rattle.network.specs.Rosters.{climbs, is_roster, roster_from}
 use Rattle.link_text.specs.declared.types.Field.{Field}
@@ -10,9 +10,9 @@ use Rattle.link_text.specs.Fields.{names_as, bytes_of}
 use Rattle.link_text.specs.Numerals.{digits, plain, value, greatest}
 use Rattle.link_text.specs.Answers.{field_of, field_answer, number_answer, start_answer}
 use Rattle.link_list.specs.declared.types.Cause.{Cause}
-use Rattle.link_list.specs.declared.types.Cause.TheVariants.{TooManyAses, Text}
+use Rattle.link_list.specs.declared.types.Cause.TheVariants.{TooManyAses}
 use Rattle.link_list.specs.declared.types.Fault.{Fault}
-use Rattle.listing.specs.Surveys.{noted, reading, going_on, as_survey, figures_survey, line_survey, Surveys, done, stops, reads}
+use Rattle.listing.specs.Surveys.{noted, reading, going_on, as_survey, figures_survey, line_survey, Surveys}
 
 noted_climbs : (low a : ℕ) (xs : List ℕ) → low < a → climbs low xs ≡ true → climbs low (noted a xs) ≡ true
 noted_climbs low a [] h c = and_from (ltb low a) true (lt-ltb low a h) refl

@@ -1,16 +1,15 @@
 -- A load leaves no destination settled, and memory that was large enough is so still. Assumes nothing.
-use Rattle.std.proofs.Common.{◌≡◌, ℕ, ◌+◌, ◌-◌, ◌*◌, ◌<◌, ◌≤◌, Bool, true, false, ◌||◌, eqb, ltb, ◌⊎◌, List, [], ◌∷◌, ◌++◌, length, get_or, drop, replicate, Result, sym, refl, ap, ◌∙◌, subst, inl, inr, ⊎_elim, arith}
+use Rattle.std.proofs.Common.{◌≡◌, ℕ, ◌+◌, ◌-◌, ◌*◌, ◌<◌, ◌≤◌, false, ◌||◌, ltb, List, [], length, get_or, drop, replicate, Result, sym, refl, ap, ◌∙◌, ⊎_elim, arith}
 use Rattle.std.proofs.lemmas.List.{get_or_append_left, get_or-append_right, get_or-replicate, get_or-drop, length-append, length-replicate, length-drop}
-use Rattle.std.proofs.lemmas.Bool.{cases_lt, or_parts, or_from, ltb-false, le-ltb, ne_eqb}
+use Rattle.std.proofs.lemmas.Bool.{cases_lt, or_parts, ltb-false, ne_eqb}
 use Rattle.network.specs.declared.types.Link.{Link}
-use Rattle.network.specs.Rosters.{place}
 use Rattle.measure.specs.Delay.{delay}
 use Rattle.table.specs.declared.types.Entry.{Entry}
 use Rattle.table.specs.Memory.{small}
 use Rattle.board.specs.Edits.{cleared}
-use Rattle.routes.specs.Routes.{has, Holds}
+use Rattle.routes.specs.Routes.{Holds}
 use Rattle.link_list.specs.declared.types.Fault.{Fault}
-use Rattle.link_list.specs.Loads.{Loads, done, malformed, refused, enters}
+use Rattle.link_list.specs.Loads.{Loads}
 
 -- no destination is marked
 abbrev pub Unmarked : List ℕ → Type 0

@@ -1,19 +1,17 @@
 -- What a send answers over settled columns, as a row. Assumes nothing.
-use Rattle.std.proofs.Common.{◌≡◌, ℕ, ◌+◌, ◌<◌, ◌≤◌, Bool, true, false, cond, not, ◌≢◌, ◌⊎◌, List, [], ◌∷◌, ◌++◌, length, get_or, drop, is_some, Some, None, Ok, Err, Option, Result, sym, refl, ap, ◌∙◌, subst, inl, inr, arith}
+use Rattle.std.proofs.Common.{◌≡◌, ℕ, ◌+◌, ◌<◌, ◌≤◌, Bool, true, false, not, ◌≢◌, List, [], ◌∷◌, ◌++◌, length, get_or, drop, is_some, Some, None, Ok, Err, Result, sym, refl, ap, ◌∙◌, subst, inl, inr, arith}
 use Rattle.network.specs.declared.types.Link.{Link}
 use Rattle.network.specs.Rosters.{Among, place}
-use Rattle.network.specs.Causes.{first_cause, unknown}
+use Rattle.network.specs.Causes.{first_cause}
 use Rattle.network.proofs.Rising.{among_place}
-use Rattle.measure.specs.Measures.{AtMost}
 use Rattle.measure.specs.Delay.{delay}
 use Rattle.legality.specs.declared.types.Class.TheVariants.{Home}
 use Rattle.legality.specs.Networks.{Network, net_of}
 use Rattle.legality.specs.Paths.{Route, Chain, First, Second, Last, cost}
 use Rattle.legality.proofs.Lists.{pigeonhole}
 use Rattle.table.specs.declared.types.RouteRefusal.{RouteRefusal}
-use Rattle.table.specs.declared.types.RouteRefusal.TheVariants.{UnknownAs, NotSettled, NoPath, ListTooShort}
-use Rattle.routes.specs.Routes.{has, refusal, Walks, Sends}
-use Rattle.listing.specs.declared.types.Row.{Row}
+use Rattle.table.specs.declared.types.RouteRefusal.TheVariants.{UnknownAs, NotSettled}
+use Rattle.routes.specs.Routes.{has, refusal, Sends}
 use Rattle.listing.specs.Rows.{RowRight, there, nowhere}
 
 -- a question about ASes of the roster, the second of them settled, is not refused

@@ -1,10 +1,9 @@
 -- A line of the first pass, put together from what its parts answered. Assumes nothing.
-use Rattle.std.proofs.Common.{◌≡◌, ℕ, List, take, drop, Ok, Err, Result, sym, refl, ap, ◌∙◌}
+use Rattle.std.proofs.Common.{◌≡◌, ℕ, List, take, drop, Ok, Result, sym, ap, ◌∙◌}
 use Rattle.std.proofs.lemmas.List.{drop-drop}
 use Rattle.link_text.specs.declared.types.Field.TheVariants.{First, Second, Relation, Delay, Width}
 use Rattle.link_text.specs.declared.types.TextFault.{TextFault}
 use Rattle.link_text.specs.Answers.{field_answer, field_of, start_answer, and_then}
-use Rattle.link_list.specs.declared.types.Cause.{Cause}
 use Rattle.listing.specs.Surveys.{as_survey, figures_survey, line_survey, reading, going_on}
 
 -- the width, after a relation and a delay that are well formed

@@ -1,8 +1,8 @@
 -- Width first and hops second is no measure: of two costs the first may be less, and behind one and the same link dearer. Assumes nothing.
-use Rattle.std.specs.Prelude.{◌+◌, min, ◌&&◌, ◌||◌, ◌==◌, nat_lt}
+use Rattle.std.specs.Prelude.{◌&&◌, ◌||◌, ◌==◌, nat_lt}
 use Rattle.measure.specs.declared.hops_width.HopsWidthCost.{HopsWidthCost}
 use Rattle.measure.specs.Measures.{Measure, Laws}
-use Rattle.measure.specs.HopsWidth.{hops_cost, hops_width}
+use Rattle.measure.specs.HopsWidth.{hops_width}
 
 -- hops-width, but for the order: the greater width is less, then fewer hops
 abbrev pub width_first : Measure HopsWidthCost

@@ -9,7 +9,7 @@ use Rattle.network.proofs.Somes.{same_pair}
 use Rattle.measure.specs.Measures.{Measure, Laws, AtMost}
 use Rattle.legality.specs.declared.types.Class.{Class}
 use Rattle.legality.specs.declared.types.Class.TheVariants.{Home}
-use Rattle.legality.specs.Networks.{Network, Sound, net_of}
+use Rattle.legality.specs.Networks.{Network, net_of}
 use Rattle.legality.specs.Paths.{Route, First, cost}
 use Rattle.legality.specs.Tables.{Walk}
 use Rattle.legality.proofs.Entries.{shortest_at, no_path_at}

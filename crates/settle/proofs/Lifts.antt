@@ -20,7 +20,7 @@ use Rattle.waiting.specs.Calls.{Sets}
 use Rattle.measure.specs.declared.Measure.{Ghosts}
 use Rattle.waiting.specs.declared.list.Waiting as lists
 use Rattle.waiting.proofs.Rooms.{room_left}
-use Rattle.labels.specs.Labels.{Waiting, Outcome, Elsewhere, Less}
+use Rattle.labels.specs.Labels.{Outcome, Elsewhere, Less}
 use Rattle.labels.proofs.Steps.{may_lower, blank_idle, relax_step}
 use Rattle.table.specs.declared.types.Entry.{Entry}
 use Rattle.table.specs.Columns.{entry, blank, read, pair, at_place, table, Row}

@@ -7,15 +7,13 @@ use Rattle.std.proofs.lemmas.List.{at_drop_more, at_drop_all, set-get_or, set_sp
 use Rattle.std.proofs.lemmas.Bool.Decides.{nat_tests}
 use Rattle.network.specs.declared.types.Link.{Link}
 use Rattle.network.specs.declared.types.Figures.{Figures}
-use Rattle.network.specs.Rosters.{Among, place}
+use Rattle.network.specs.Rosters.{place}
 use Rattle.network.specs.Limits.{in_limits}
 use Rattle.network.specs.Books.{joins, find, before, added, recosted, without, with_figures}
-use Rattle.network.specs.Sound.{Proper, InOrder}
-use Rattle.network.proofs.Options.{some_from}
-use Rattle.network.proofs.Rising.{stands_among, place_stands}
+use Rattle.network.specs.Sound.{InOrder}
 use Rattle.network.proofs.Books.{Earlier, earlier_before, earlier_not_before, Apart, apart_earlier, apart_later, added_between, find_none, find_here, recosted_here, without_here}
 use Rattle.stores.specs.Ranks.{is_proper, before_all, is_book, one_on, less, row_of}
-use Rattle.stores.specs.RanksLemmas.{Parts, parts, book_in_order}
+use Rattle.stores.specs.RanksLemmas.{Parts, parts}
 
 module _ (roster : List ℕ) where
   from_parts : (l : Link) (ls : List Link) → Parts roster l ls → is_book roster (l ∷ ls) ≡ true

@@ -1,20 +1,15 @@
 -- The rows of a row store are a book. Assumes nothing.
-use Rattle.std.proofs.Common.{◌≡◌, ℕ, zero, suc, ◌+◌, ◌<◌, ◌≤◌, Bool, true, false, cond, ◌&&◌, eqb, ltb, List, [], ◌∷◌, ◌++◌, length, get_or, take, drop, set, is_some, Some, None, Ok, Err, Result, sym, refl, ap, ◌∙◌, subst, inl, inr, ⊎_elim, arith}
-use Rattle.std.specs.List.{insert, remove, AllByRecursion as All}
-use Rattle.std.proofs.ByRecursion.{All-weaker, All-append}
-use Rattle.std.proofs.lemmas.Bool.{and_from, and_parts, or_cases, cases_Bool, ltb-true, eqb-true, cond-true, cond-false}
-use Rattle.std.proofs.lemmas.List.{at_drop_more, at_drop_all, set-get_or, set_split, take-append-drop}
-use Rattle.std.proofs.lemmas.Bool.Decides.{nat_tests}
+use Rattle.std.proofs.Common.{◌≡◌, ℕ, true, ◌&&◌, ltb, List, [], ◌∷◌, is_some, subst}
+use Rattle.std.specs.List.{AllByRecursion as All}
+use Rattle.std.proofs.lemmas.Bool.{and_parts, ltb-true}
 use Rattle.network.specs.declared.types.Link.{Link}
-use Rattle.network.specs.declared.types.Figures.{Figures}
 use Rattle.network.specs.Rosters.{Among, place}
 use Rattle.network.specs.Limits.{in_limits}
-use Rattle.network.specs.Books.{joins, find, before, added, recosted, without, with_figures}
+use Rattle.network.specs.Books.{before}
 use Rattle.network.specs.Sound.{Proper, InOrder}
 use Rattle.network.proofs.Options.{some_from}
 use Rattle.network.proofs.Rising.{stands_among, place_stands}
-use Rattle.network.proofs.Books.{Earlier, earlier_before, earlier_not_before, Apart, apart_earlier, apart_later, added_between, find_none, find_here, recosted_here, without_here}
-use Rattle.stores.specs.Ranks.{is_proper, before_all, is_book, one_on, less, row_of}
+use Rattle.stores.specs.Ranks.{is_proper, before_all, is_book}
 use Rattle.stores.specs.CellsLemmas.{limits_from}
 
 known_among : (roster : List ℕ) (a : ℕ) → is_some (place roster a) ≡ true → Among a roster

@@ -1,4 +1,4 @@
-use Rattle.std.proofs.Common.{◌≡◌, ℕ, ◌+◌, ◌*◌, ◌<◌, ◌≤◌, true, false, List, length, drop, Ok, Err, Result, sym, refl, ap, ◌∙◌, subst, arith}
+use Rattle.std.proofs.Common.{◌≡◌, ℕ, ◌+◌, ◌≤◌, List, length, drop, Ok, Err, Result, sym, refl, ◌∙◌, subst, arith}
 use Rattle.network.specs.declared.types.Link.{Link}
 use Rattle.link_text.specs.Left.{left}
 use Rattle.link_text.proofs.Lines.{shorter, no_more}

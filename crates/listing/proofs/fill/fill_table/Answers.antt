@@ -1,4 +1,4 @@
-use Rattle.std.proofs.Common.{◌≡◌, ℕ, ◌≤◌, false, List, [], length, Ok, Err, vec_items, Result, sym, refl, ap, ◌∙◌, subst, arith}
+use Rattle.std.proofs.Common.{◌≡◌, ℕ, false, List, [], length, Ok, Err, vec_items, Result, sym, refl, ap, ◌∙◌, subst}
 use Rattle.network.specs.declared.types.Link.{Link}
 use Rattle.table.specs.declared.types.Entry.{Entry}
 use Rattle.table.specs.Memory.{small}
@@ -6,8 +6,8 @@ use Rattle.link_list.specs.declared.types.Fault.{Fault}
 use Rattle.link_list.specs.Loads.{Loads}
 use Rattle.legality.specs.Networks.{net_of}
 use Rattle.listing.specs.Rows.{RowsRight, pairs_from}
-use Rattle.listing.specs.Listings.{EntersAll, Tables, refused, listed}
-use Rattle.listing.proofs.Fresh.{Unmarked, load_unmarked, load_long, holds_none, still_large, marks_enough}
+use Rattle.listing.specs.Listings.{refused, listed}
+use Rattle.listing.proofs.Fresh.{load_unmarked, load_long, holds_none, still_large, marks_enough}
 use Rattle.listing.proofs.fill.fill_table.Goals as goal
 
 -- a load into an empty store, told of the ASes

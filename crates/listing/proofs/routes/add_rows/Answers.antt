@@ -1,10 +1,9 @@
-use Rattle.std.proofs.Common.{◌≡◌, ℕ, ◌+◌, ◌<◌, List, [], ◌∷◌, ◌++◌, length, get_or, take, vec_items, sym, refl, ap, ◌∙◌, subst, append_assoc, arith}
+use Rattle.std.proofs.Common.{[], ◌∷◌, ◌++◌, get_or, vec_items, sym, ap, ◌∙◌, subst, append_assoc}
 use Rattle.std.proofs.lemmas.List.{take_all}
 use Rattle.std.proofs.lemmas.Result.{IfOk-from_err}
 use Rattle.network.specs.Rosters.{Among}
 use Rattle.network.proofs.Rising.{stands_among}
 use Rattle.legality.specs.Networks.{net_of}
-use Rattle.listing.specs.declared.types.Row.{Row}
 use Rattle.listing.specs.Rows.{RowsRight, pairs_of}
 use Rattle.listing.proofs.Rows.{row_more, row_same}
 use Rattle.listing.proofs.routes.add_rows.Goals as goal

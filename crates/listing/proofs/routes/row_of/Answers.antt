@@ -1,4 +1,4 @@
-use Rattle.std.proofs.Common.{◌≡◌, ℕ, List, get_or, replicate, sym, refl, ap, ◌∙◌, subst}
+use Rattle.std.proofs.Common.{ℕ, List, get_or, replicate, sym, refl, subst}
 use Rattle.measure.specs.Delay.{delay}
 use Rattle.measure.specs.Delays.{delay_laws}
 use Rattle.legality.specs.Networks.{net_of}

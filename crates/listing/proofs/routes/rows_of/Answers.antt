@@ -1,4 +1,4 @@
-use Rattle.std.proofs.Common.{◌≡◌, ℕ, ◌+◌, ◌<◌, List, [], ◌∷◌, ◌++◌, length, get_or, take, vec_items, sym, refl, ap, ◌∙◌, subst}
+use Rattle.std.proofs.Common.{◌+◌, get_or, take, vec_items, sym, subst}
 use Rattle.std.proofs.lemmas.List.{take_all}
 use Rattle.network.specs.Rosters.{Among}
 use Rattle.network.proofs.Rising.{stands_among}

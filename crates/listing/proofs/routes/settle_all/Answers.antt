@@ -1,10 +1,9 @@
-use Rattle.std.proofs.Common.{◌≡◌, ℕ, ◌+◌, ◌*◌, ◌<◌, ◌≤◌, List, [], ◌∷◌, length, get_or, take, Some, None, sym, refl, ap, ◌∙◌, subst, arith}
+use Rattle.std.proofs.Common.{◌≡◌, ℕ, ◌<◌, [], ◌∷◌, length, get_or, take, Some, None, sym, refl, ap, ◌∙◌, subst, arith}
 use Rattle.std.proofs.lemmas.List.{take_all}
 use Rattle.network.specs.Rosters.{Among, place}
 use Rattle.network.proofs.Rising.{rising, place_at}
 use Rattle.measure.specs.Delay.{delay}
-use Rattle.routes.specs.Routes.{has, Holds}
-use Rattle.settle.specs.Memory.{Memory, memory_of, Lent}
+use Rattle.settle.specs.Memory.{memory_of}
 use Rattle.settle.specs.Settled.{cause}
 use Rattle.runs.proofs.Filled.{holds_more}
 use Rattle.listing.proofs.AllSettled.{no_cause, has_more}

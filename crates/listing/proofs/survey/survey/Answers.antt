@@ -1,4 +1,4 @@
-use Rattle.std.proofs.Common.{◌≡◌, ℕ, ◌+◌, ◌*◌, ◌<◌, ◌≤◌, true, false, List, [], ◌∷◌, length, drop, Ok, Err, vec_items, vec_len, Result, sym, refl, ap, ◌∙◌, subst, arith}
+use Rattle.std.proofs.Common.{◌≡◌, ℕ, ◌+◌, true, false, List, [], ◌∷◌, length, drop, Ok, Err, vec_items, Result, sym, refl, ap, ◌∙◌, subst, arith}
 use Rattle.std.proofs.lemmas.Bool.{both_ways}
 use Rattle.link_text.specs.declared.types.TextFault.{TextFault}
 use Rattle.link_text.specs.Left.{left}
@@ -6,7 +6,6 @@ use Rattle.link_text.specs.Numerals.{none}
 use Rattle.link_text.specs.Answers.{start_answer}
 use Rattle.link_text.proofs.Lines.{long_line, shorter, no_more}
 use Rattle.link_list.specs.declared.types.Cause.{Cause}
-use Rattle.link_list.specs.declared.types.Fault.{Fault}
 use Rattle.link_list.specs.Loads.{fault}
 use Rattle.listing.specs.Surveys.{Surveys, done, stops, reads, reading, line_survey}
 use Rattle.listing.proofs.survey.survey.Goals as goal

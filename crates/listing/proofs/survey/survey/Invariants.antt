@@ -1,4 +1,4 @@
-use Rattle.std.proofs.Common.{◌≡◌, ℕ, ◌+◌, ◌*◌, ◌≤◌, List, [], length, vec_items, vec_len, vec_capacity, Result}
+use Rattle.std.proofs.Common.{ℕ, ◌+◌, ◌*◌, ◌≤◌, List, [], length, vec_items, vec_len, vec_capacity, Result}
 use Rattle.link_text.specs.Left.{left}
 use Rattle.link_list.specs.declared.types.Fault.{Fault}
 use Rattle.listing.specs.Surveys.{Surveys}

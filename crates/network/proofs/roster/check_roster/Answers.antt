@@ -1,8 +1,8 @@
-use Rattle.std.proofs.Common.{◌≡◌, ℕ, ◌+◌, ◌<◌, ◌≤◌, Bool, true, false, cond, ◌&&◌, ltb, leb, List, ◌∷◌, length, get_or, drop, Ok, Err, sym, refl, ap, ◌∙◌, arith}
+use Rattle.std.proofs.Common.{◌≡◌, ℕ, ◌+◌, ◌<◌, ◌≤◌, Bool, true, false, cond, ◌&&◌, ltb, leb, List, length, get_or, drop, Ok, Err, sym, ap, ◌∙◌, arith}
 use Rattle.std.proofs.lemmas.List.{at_drop_more, at_drop_all}
 use Rattle.std.proofs.lemmas.Bool.{lt-ltb, le-ltb, le-leb, eqb-false, and_left}
 use Rattle.network.specs.declared.types.RosterRefusal.TheVariants.{NotARoster}
-use Rattle.network.specs.Rosters.{climbs, is_roster, roster_answer}
+use Rattle.network.specs.Rosters.{climbs, is_roster}
 use Rattle.network.proofs.roster.check_roster.Goals as goal
 
 -- the check of a list that is neither empty nor too long

@@ -1,5 +1,5 @@
 use Rattle.std.proofs.Common.{◌≡◌, ℕ, length, get_or, Some, None, sym, ap, ◌∙◌}
-use Rattle.network.specs.Rosters.{at, place}
+use Rattle.network.specs.Rosters.{at}
 use Rattle.network.specs.Steps.{far_end}
 use Rattle.network.proofs.Somes.{none_some}
 use Rattle.network.proofs.Rising.{at_known}
