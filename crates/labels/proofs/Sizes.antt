@@ -1,6 +1,6 @@
 -- How many entries a table has, and what that says of a cost. Assumes nothing.
 use Rattle.std.proofs.Common.{◌≡◌, ℕ, suc, ◌+◌, ◌*◌, ◌<◌, ◌≤◌, List, [], ◌∷◌, length, Some, None, Option, sym, refl, ap, subst, inl, inr, arith}
-use Rattle.std.specs.List.{AllByRecursion as All}
+use Rattle.std.specs.List.{AllByRecursion}
 use Rattle.network.specs.declared.types.Figures.{Figures}
 use Rattle.network.specs.Limits.{Limits}
 use Rattle.network.specs.Rosters.{Among}
@@ -49,7 +49,7 @@ module _ {C : Type 0} {m : Measure C} (laws : Laws m) where
   pub reach_within : (k : ℕ) (c : C) → k ≤ 1024 → Reach m k c → Within m c
   reach_within k c h r = let s = r.short in subst (Within m) (sym r.costs) (laws.range r.figures r.limits (omega arith))
 
-  total_start : (fs : List Figures) → All Limits fs → length fs ≤ 1024 → AtMost m m.start (total m fs)
+  total_start : (fs : List Figures) → AllByRecursion Limits fs → length fs ≤ 1024 → AtMost m m.start (total m fs)
   total_start [] h n = laws.irreflexive m.start
   total_start (f ∷ fs) h n =
       let short : length fs ≤ 1024 = omega arith in

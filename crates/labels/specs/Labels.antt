@@ -1,6 +1,6 @@
 -- The label-setting method over plain functions: what is taken, what waits, and what holds on the way. Assumes nothing.
 use Rattle.std.specs.Prelude.{◌≡◌, ℕ, suc, ◌+◌, ◌≤◌, true, ◌≢◌, ◌⊎◌, List, [], ◌∷◌, length, Some, None, Option}
-use Rattle.std.specs.List.{AllByRecursion as All}
+use Rattle.std.specs.List.{AllByRecursion}
 use Rattle.network.specs.declared.types.Figures.{Figures}
 use Rattle.network.specs.Limits.{Limits}
 use Rattle.network.specs.Rosters.{Among}
@@ -34,7 +34,7 @@ size t (a ∷ l) = one (t a Home) + (one (t a Outside) + size t l)
 -- c is the cost of at most k links
 pub record Reach {C : Type 0} (m : Measure C) (k : ℕ) (c : C) : Type 0 where
   pub figures : List Figures
-  pub limits : All Limits figures
+  pub limits : AllByRecursion Limits figures
   pub short : length figures ≤ k
   pub costs : c ≡ total m figures
 

@@ -1,6 +1,6 @@
 -- What a path costs, how long it is, and that its cost is in range. Assumes nothing.
 use Rattle.std.proofs.Common.{◌≡◌, ℕ, suc, ◌≤◌, true, List, [], ◌∷◌, length, Some, sym, refl, ap, ◌∙◌, subst, inl, inr, arith}
-use Rattle.std.specs.List.{AllByRecursion as All}
+use Rattle.std.specs.List.{AllByRecursion}
 use Rattle.network.specs.declared.types.Figures.{Figures}
 use Rattle.network.specs.declared.types.Relation.{Relation}
 use Rattle.network.specs.Limits.{Limits}
@@ -45,7 +45,7 @@ module _ {C : Type 0} (m : Measure C) (net : Network) where
       cost_step a b r k.1.0 k.1.1 k.1.2 ∙ ap (λ c. m.extend c k.1.1) (cost_total (b ∷ r) k.2)
 
 module _ {net : Network} (sound : Sound net) where
-  pub limits_figures : (p : List ℕ) (k : Chain net p) → All Limits (figures net p k)
+  pub limits_figures : (p : List ℕ) (k : Chain net p) → AllByRecursion Limits (figures net p k)
   limits_figures [] k = tt
   limits_figures (a ∷ []) k = tt
   limits_figures (a ∷ (b ∷ r)) k = (sound.limits a b k.1.0 k.1.1 k.1.2, limits_figures (b ∷ r) k.2)

@@ -3,7 +3,7 @@ ghost use Rattle.std.specs.Prelude.{◌≡◌, ℕ, ◌*◌, ◌≤◌, false, [
 ghost use Rattle.table.specs.Memory.{small};
 ghost use Rattle.listing.specs.Listings.{Tables};
 
-use crate::routes::{rows_of, settle_all};
+use crate::all_pairs::{rows_of, settle_all};
 use crate::types::Listing;
 use link_list::load::load;
 use network::stores::EditableStore;

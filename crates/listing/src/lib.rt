@@ -6,9 +6,9 @@ ghost use Rattle.network.specs.Rosters.{climbs};
 ghost use Rattle.listing.specs.Listings.{Tables, Lists};
 ghost use Rattle.listing.specs.Pages.{line as LineOf, fault_numbers, printed};
 
+mod all_pairs;
 mod fill;
 mod page;
-mod routes;
 mod survey;
 pub mod types;
 

@@ -1,14 +1,14 @@
 -- Delays keep the laws of a measure. Assumes nothing.
 use Rattle.std.specs.Prelude.{◌+◌, ◌*◌, ◌≤◌, List, [], ◌∷◌, length}
 use Rattle.std.proofs.Common.{arith}
-use Rattle.std.specs.List.{AllByRecursion as All}
+use Rattle.std.specs.List.{AllByRecursion}
 use Rattle.std.proofs.lemmas.Bool.{ltb-true, ltb-false, lt-ltb, le-ltb, le-leb}
 use Rattle.network.specs.declared.types.Figures.{Figures}
 use Rattle.network.specs.Limits.{Limits}
 use Rattle.measure.specs.Measures.{Laws, total}
 use Rattle.measure.specs.Delay.{delay}
 
-delay_range : (fs : List Figures) → All Limits fs → total delay fs ≤ length fs * 1000000
+delay_range : (fs : List Figures) → AllByRecursion Limits fs → total delay fs ≤ length fs * 1000000
 delay_range [] h = omega arith
 delay_range (f ∷ fs) h = omega (arith, h.0.delay_high, delay_range fs h.1)
 

@@ -1,6 +1,6 @@
 -- Hops and then width keep the laws of a measure. Assumes nothing.
 use Rattle.std.proofs.Common.{◌≡◌, ℕ, ◌+◌, ◌<◌, ◌≤◌, min, Bool, true, false, ◌&&◌, ◌||◌, eqb, ltb, leb, ◌⊎◌, List, [], ◌∷◌, length, sym, refl, ap, ◌∙◌, inl, inr, ⊎_elim, arith}
-use Rattle.std.specs.List.{AllByRecursion as All}
+use Rattle.std.specs.List.{AllByRecursion}
 use Rattle.std.proofs.lemmas.Bool.{ltb-true, ltb-false, le-leb, and_from, eqb-true, eq-eqb, cases_Bool, both_ways}
 use Rattle.network.specs.declared.types.Figures.{Figures}
 use Rattle.network.specs.Limits.{Limits}
@@ -51,7 +51,7 @@ hops_range : (fs : List Figures) → (total hops_width fs).hops ≡ length fs
 hops_range [] = refl
 hops_range (f ∷ fs) = omega (arith, hops_range fs)
 
-width_range : (fs : List Figures) → All Limits fs → (1 ≤ (total hops_width fs).width) × ((total hops_width fs).width ≤ 1000000)
+width_range : (fs : List Figures) → AllByRecursion Limits fs → (1 ≤ (total hops_width fs).width) × ((total hops_width fs).width ≤ 1000000)
 width_range [] h = (omega arith, omega arith)
 width_range (f ∷ fs) h =
     let more = width_range fs h.1 in

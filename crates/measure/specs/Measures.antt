@@ -1,7 +1,7 @@
 -- What a path can be measured by, and the laws of a measure. Assumes nothing.
 use Rattle.std.specs.Prelude.{◌≡◌, ◌≤◌, Bool, true, false, List, length}
 use mathlib.Core.List.{foldr}
-use Rattle.std.specs.List.{AllByRecursion as All}
+use Rattle.std.specs.List.{AllByRecursion}
 use Rattle.network.specs.declared.types.Figures.{Figures}
 use Rattle.network.specs.Limits.{Limits}
 
@@ -32,4 +32,4 @@ pub record Laws {C : Type 0} (m : Measure C) : Type 0 where
   pub antisymmetric : (p q : C) → AtMost m p q → AtMost m q p → p ≡ q
   pub monotone : (p q : C) (f : Figures) → Within m p → Within m q → Limits f → AtMost m p q → AtMost m (m.extend p f) (m.extend q f)
   pub strict : (p : C) (f : Figures) → Within m p → Limits f → m.less p (m.extend p f) ≡ true
-  pub range : (fs : List Figures) → All Limits fs → length fs ≤ 1024 → Within m (total m fs)
+  pub range : (fs : List Figures) → AllByRecursion Limits fs → length fs ≤ 1024 → Within m (total m fs)

@@ -1,6 +1,6 @@
 -- A pair of ASes has at most one link in a book in order. Assumes nothing.
 use Rattle.std.proofs.Common.{◌≡◌, ℕ, zero, suc, true, false, ◌&&◌, eqb, ltb, List, [], ◌∷◌, Some, refl, ap, ◌∙◌, subst, inl, inr, arith}
-use Rattle.std.specs.List.{AllByRecursion as All}
+use Rattle.std.specs.List.{AllByRecursion}
 use Rattle.std.proofs.lemmas.Bool.{and_parts, and_from, and_left, and_right, or_cases, ltb-true, eq-eqb, ne_eqb, cond-true, cond-false}
 use Rattle.network.specs.declared.types.Link.{Link}
 use Rattle.network.specs.Rosters.{at}
@@ -9,7 +9,7 @@ use Rattle.network.specs.Sound.{InOrder}
 use Rattle.network.proofs.Somes.{some_inj, none_some}
 
 -- what holds of each element holds of the one at a place
-pub all_at : {X : Type 0} (P : X → Type 0) (xs : List X) → All P xs → (i : ℕ) (x : X) → at xs i ≡ Some x → P x
+pub all_at : {X : Type 0} (P : X → Type 0) (xs : List X) → AllByRecursion P xs → (i : ℕ) (x : X) → at xs i ≡ Some x → P x
 all_at P [] h i x e = absurd (none_some refl e)
 all_at P (y ∷ ys) h zero x e = subst P (some_inj e) h.0
 all_at P (y ∷ ys) h (suc i) x e = all_at P ys h.1 i x e

@@ -1,6 +1,6 @@
 -- What holds of the roster and the book of every store. Assumes nothing.
 use Rattle.std.specs.Prelude.{◌≡◌, ℕ, ◌<◌, ◌≤◌, true, List, [], ◌∷◌, length}
-use Rattle.std.specs.List.{AllByRecursion as All}
+use Rattle.std.specs.List.{AllByRecursion}
 use Rattle.network.specs.declared.types.Link.{Link}
 use Rattle.network.specs.Rosters.{Among, climbs}
 use Rattle.network.specs.Limits.{Limits}
@@ -16,10 +16,10 @@ pub record Proper (roster : List ℕ) (l : Link) : Type 0 where
 -- each link stands before all that follow it, so that a pair has at most one
 abbrev pub InOrder : List Link → Type 0
 InOrder [] = Unit {0}
-InOrder (l ∷ ls) = All (λ k. before l k ≡ true) ls × InOrder ls
+InOrder (l ∷ ls) = AllByRecursion (λ k. before l k ≡ true) ls × InOrder ls
 
 pub record Sound (roster : List ℕ) (book : List Link) : Type 0 where
   pub few : length roster ≤ 512
   pub rising : climbs 0 roster ≡ true
-  pub proper : All (Proper roster) book
+  pub proper : AllByRecursion (Proper roster) book
   pub in_order : InOrder book

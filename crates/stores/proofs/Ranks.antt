@@ -1,6 +1,6 @@
 -- Rows in the order of the book, and where the link of a pair stands among them. Assumes nothing.
 use Rattle.std.proofs.Common.{◌≡◌, ℕ, zero, suc, ◌+◌, ◌<◌, ◌≤◌, Bool, true, false, cond, ◌&&◌, eqb, ltb, List, [], ◌∷◌, ◌++◌, length, get_or, take, drop, set, is_some, Some, None, Ok, Err, Result, sym, refl, ap, ◌∙◌, subst, inl, inr, ⊎_elim, arith}
-use Rattle.std.specs.List.{insert, remove, AllByRecursion as All}
+use Rattle.std.specs.List.{insert, remove, AllByRecursion}
 use Rattle.std.proofs.ByRecursion.{All-weaker, All-append}
 use Rattle.std.proofs.lemmas.Bool.{and_from, and_parts, or_cases, cases_Bool, ltb-true, eqb-true, cond-true, cond-false}
 use Rattle.std.proofs.lemmas.List.{at_drop_more, at_drop_all, set-get_or, set_split, take-append-drop}
@@ -19,7 +19,7 @@ module _ (roster : List ℕ) where
   from_parts : (l : Link) (ls : List Link) → Parts roster l ls → is_book roster (l ∷ ls) ≡ true
   from_parts l ls p = and_from (is_proper roster l) (before_all l ls && is_book roster ls) p.fine (and_from (before_all l ls) (is_book roster ls) p.first p.rest)
 
-  before_each : (l : Link) (ls : List Link) → All (λ k. before l k ≡ true) ls → before_all l ls ≡ true
+  before_each : (l : Link) (ls : List Link) → AllByRecursion (λ k. before l k ≡ true) ls → before_all l ls ≡ true
   before_each l [] h = refl
   before_each l (k ∷ ks) h = and_from (before l k) (before_all l ks) h.0 (before_each l ks h.1)
 
@@ -31,7 +31,7 @@ module _ (roster : List ℕ) where
       let p = and_parts (before l k) (before_all l ks) e in
       and_from (before l k) (before_all l (insert ks i new)) p.0 (before_inserted l ks i new p.1 h)
 
-  pub book_inserted : (book : List Link) (i : ℕ) (new : Link) → is_book roster book ≡ true → is_proper roster new ≡ true → All (λ l. before l new ≡ true) (take i book) → All (λ l. before new l ≡ true) (drop i book) →
+  pub book_inserted : (book : List Link) (i : ℕ) (new : Link) → is_book roster book ≡ true → is_proper roster new ≡ true → AllByRecursion (λ l. before l new ≡ true) (take i book) → AllByRecursion (λ l. before new l ≡ true) (drop i book) →
       is_book roster (insert book i new) ≡ true
   book_inserted book zero new e fine fore rest = from_parts new book (record { fine = fine; first = before_each new book rest; rest = e })
   book_inserted [] (suc i) new e fine fore rest = from_parts new [] (record { fine = fine; first = refl; rest = refl })
@@ -94,14 +94,14 @@ module _ (low high : ℕ) where
   pub record Standing (book : List Link) (i : ℕ) : Type 0 where
     pub within : i < length book
     pub here : (d : Link) → joins low high (get_or book i d) ≡ true
-    pub fore : All (Apart low high) (take i book)
-    pub rest : All (Apart low high) (drop (suc i) book)
+    pub fore : AllByRecursion (Apart low high) (take i book)
+    pub rest : AllByRecursion (Apart low high) (drop (suc i) book)
 
   -- no link of the pair stands in the book, and one would stand at the row i
   pub record Absent (book : List Link) (i : ℕ) : Type 0 where
     pub within : i ≤ length book
-    pub fore : All (λ l. Earlier l.low l.high low high) (take i book)
-    pub rest : All (λ l. Earlier low high l.low l.high) (drop i book)
+    pub fore : AllByRecursion (λ l. Earlier l.low l.high low high) (take i book)
+    pub rest : AllByRecursion (λ l. Earlier low high l.low l.high) (drop i book)
 
   abbrev pub Cut : List Link → Result ℕ ℕ → Type 0
   Cut book (Ok i) = Standing book i
@@ -175,7 +175,7 @@ module _ (low high : ℕ) where
   find_absent book i there =
       let fore = All-weaker (λ l. Earlier l.low l.high low high) (Apart low high) (apart_earlier low high) (take i book) there.fore in
       let rest = All-weaker (λ l. Earlier low high l.low l.high) (Apart low high) (apart_later low high) (drop i book) there.rest in
-      find_none low high book (subst (All (Apart low high)) (take-append-drop i book) (All-append (Apart low high) (take i book) (drop i book) fore rest))
+      find_none low high book (subst (AllByRecursion (Apart low high)) (take-append-drop i book) (All-append (Apart low high) (take i book) (drop i book) fore rest))
 
 module _ (book : List Link) (i : ℕ) (new : Link) (there : Absent new.low new.high book i) where
   pub added_absent : insert book i new ≡ added book new

@@ -1,8 +1,8 @@
 -- The cells of a grid store as a book. Assumes nothing.
 use Rattle.std.specs.Prelude.{◌≡◌, ℕ, zero, suc, ◌+◌, ◌/◌, ◌%◌, ◌<◌, ◌≤◌, true, false, ◌&&◌, List, [], ◌∷◌, ◌++◌, length, take, drop, set, replicate, Some, None, Option, ◌==◌, nat_eq, nat_le, nat_lt, slice_index, slice_index_or, slice_set, refl}
 use Rattle.std.proofs.Common.{sym, ap, subst, ◌∙◌, inl, inr, ⊎_elim, arith}
-use Rattle.std.specs.List.{AllByRecursion as All}
-use Rattle.std.proofs.lemmas.List.{set_split, set-get_or, drop_more}
+use Rattle.std.specs.List.{AllByRecursion}
+use Rattle.std.proofs.lemmas.List.{length-take, set_split, set-get_or, drop_more}
 use Rattle.std.proofs.ByRecursion.{All-weaker}
 use Rattle.std.proofs.lemmas.Bool.{and_from, and_parts, cases_lt, ltb-true, lt-ltb, leb-true, eqb-true, eq-eqb}
 use Rattle.network.specs.declared.types.Link.{Link}
@@ -113,7 +113,7 @@ module _ (roster : List ℕ) (rising : climbs 0 roster ≡ true) where
       let parts = and_parts (fits_cell roster k l) (fit roster (suc k) cells) e in
       and_from (fits_cell roster k l) (fit roster (suc k) (slice_set cells n v)) parts.0 (fit_set (suc k) n m cells v (omega arith) parts.1 h)
 
-  pub cells_proper : (k : ℕ) (cells : List (Option Link)) → fit roster k cells ≡ true → All (Proper roster) (filled cells)
+  pub cells_proper : (k : ℕ) (cells : List (Option Link)) → fit roster k cells ≡ true → AllByRecursion (Proper roster) (filled cells)
   cells_proper k [] e = tt
   cells_proper k (None ∷ cells) e = cells_proper (suc k) cells e
   cells_proper k (Some l ∷ cells) e = (proper (fit_first k l cells e), cells_proper (suc k) cells (fit_rest k (Some l) cells e))
@@ -133,7 +133,7 @@ module _ (roster : List ℕ) (rising : climbs 0 roster ≡ true) where
 
   module _ (m low high : ℕ) (pair : Pair roster m low high) where
     -- the links in the cells before the cell m ..
-    front : (k n : ℕ) (cells : List (Option Link)) → k + n ≤ m → fit roster k cells ≡ true → All (λ l. Earlier l.low l.high low high) (filled (take n cells))
+    front : (k n : ℕ) (cells : List (Option Link)) → k + n ≤ m → fit roster k cells ≡ true → AllByRecursion (λ l. Earlier l.low l.high low high) (filled (take n cells))
     front k zero cells s e = tt
     front k (suc n) [] s e = tt
     front k (suc n) (None ∷ cells) s e = front (suc k) n cells (omega arith) e
@@ -141,13 +141,13 @@ module _ (roster : List ℕ) (rising : climbs 0 roster ≡ true) where
         (earlier k m l.low l.high low high (omega arith) (fit_first k l cells e).pair pair, front (suc k) n cells (omega arith) (fit_rest k (Some l) cells e))
 
     -- .. and in those after it
-    back : (k : ℕ) (cells : List (Option Link)) → m < k → fit roster k cells ≡ true → All (λ l. Earlier low high l.low l.high) (filled cells)
+    back : (k : ℕ) (cells : List (Option Link)) → m < k → fit roster k cells ≡ true → AllByRecursion (λ l. Earlier low high l.low l.high) (filled cells)
     back k [] s e = tt
     back k (None ∷ cells) s e = back (suc k) cells (omega arith) e
     back k (Some l ∷ cells) s e =
         (earlier m k low high l.low l.high s pair (fit_first k l cells e).pair, back (suc k) cells (omega arith) (fit_rest k (Some l) cells e))
 
-    back_drop : (k n : ℕ) (cells : List (Option Link)) → m < k + n → fit roster k cells ≡ true → All (λ l. Earlier low high l.low l.high) (filled (drop n cells))
+    back_drop : (k n : ℕ) (cells : List (Option Link)) → m < k + n → fit roster k cells ≡ true → AllByRecursion (λ l. Earlier low high l.low l.high) (filled (drop n cells))
     back_drop k zero cells s e = back k cells (omega arith) e
     back_drop k (suc n) [] s e = tt
     back_drop k (suc n) (c ∷ cells) s e = back_drop (suc k) n cells (omega arith) (fit_rest k c cells e)
@@ -168,13 +168,13 @@ module _ (roster : List ℕ) (rising : climbs 0 roster ≡ true) where
     abbrev rest : List (Option Link)
     rest = drop (suc n) cells
 
-    fore_apart : All (Apart low high) fore
+    fore_apart : AllByRecursion (Apart low high) fore
     fore_apart = All-weaker (λ l. Earlier l.low l.high low high) (Apart low high) (apart_earlier low high) fore (front n low high pair 0 n cells (omega arith) fitting)
 
-    rest_later : All (λ l. Earlier low high l.low l.high) (filled rest)
+    rest_later : AllByRecursion (λ l. Earlier low high l.low l.high) (filled rest)
     rest_later = back_drop n low high pair 0 (suc n) cells (omega arith) fitting
 
-    rest_apart : All (Apart low high) (filled rest)
+    rest_apart : AllByRecursion (Apart low high) (filled rest)
     rest_apart = All-weaker (λ l. Earlier low high l.low l.high) (Apart low high) (apart_later low high) (filled rest) rest_later
 
     book_set : (v : Option Link) → filled (slice_set cells n v) ≡ fore ++ filled (v ∷ rest)
@@ -229,3 +229,7 @@ fits_from roster k low high l o p x y f =
     (and_from (nat_lt (k % 24) (length roster)) (lows && (highs && fine)) (lt-ltb (k % 24) (length roster) p.column)
     (and_from lows (highs && fine) (eq-eqb l.low (slice_index roster (k / 24)) (x ∙ p.low_is))
     (and_from highs fine (eq-eqb l.high (slice_index roster (k % 24)) (y ∙ p.high_is)) f)))
+
+-- at most 24 ASes are at most 512
+pub few : (n : ℕ) (ases : List ℕ) → n ≤ 24 → length (take n ases) ≤ 512
+few n ases h = omega (arith, length-take n ases)

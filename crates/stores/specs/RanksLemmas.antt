@@ -1,6 +1,6 @@
 -- The rows of a row store are a book. Assumes nothing.
 use Rattle.std.proofs.Common.{◌≡◌, ℕ, true, ◌&&◌, ltb, List, [], ◌∷◌, is_some, subst}
-use Rattle.std.specs.List.{AllByRecursion as All}
+use Rattle.std.specs.List.{AllByRecursion}
 use Rattle.std.proofs.lemmas.Bool.{and_parts, ltb-true}
 use Rattle.network.specs.declared.types.Link.{Link}
 use Rattle.network.specs.Rosters.{Among, place}
@@ -41,12 +41,12 @@ module _ (roster : List ℕ) where
       let b = and_parts (before_all l ls) (is_book roster ls) a.1 in
       record { fine = a.0; first = b.0; rest = b.1 }
 
-  pub book_proper : (book : List Link) → is_book roster book ≡ true → All (Proper roster) book
+  pub book_proper : (book : List Link) → is_book roster book ≡ true → AllByRecursion (Proper roster) book
   book_proper [] e = tt
   book_proper (l ∷ ls) e = let p = parts l ls e in (proper l p.fine, book_proper ls p.rest)
 
   -- what `before_all` says of each link
-  each_before : (l : Link) (ls : List Link) → before_all l ls ≡ true → All (λ k. before l k ≡ true) ls
+  each_before : (l : Link) (ls : List Link) → before_all l ls ≡ true → AllByRecursion (λ k. before l k ≡ true) ls
   each_before l [] e = tt
   each_before l (k ∷ ks) e = let p = and_parts (before l k) (before_all l ks) e in (p.0, each_before l ks p.1)
 

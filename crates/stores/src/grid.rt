@@ -5,9 +5,7 @@ ghost use Rattle.network.specs.Causes.{first_cause, pair_causes};
 ghost use Rattle.stores.specs.Cells.{fit, cell_at, cell_of};
 ghost use Rattle.stores.specs.Grid.{grid_roster, grid_book, grid_limit};
 ghost use Rattle.stores.specs.Refusals.{judged};
-ghost use Rattle.std.proofs.Common.{arith};
-ghost use Rattle.std.proofs.lemmas.List.{length-take};
-ghost use Rattle.stores.specs.CellsLemmas.{cells_proper, cells_in_order};
+ghost use Rattle.stores.specs.CellsLemmas.{few, cells_proper, cells_in_order};
 
 use crate::entries::{check_figures, entered, relation_named};
 use crate::rosters::{place_in, roster_of};
@@ -86,9 +84,8 @@ impl Store for GridStore {
 
     ghost sound = { λ s.
         let roster = take s.count s.ases in
-        let n = length-take s.count s.ases in
         record {
-          few = omega arith;
+          few = few s.count s.ases s.within;
           rising = s.rising;
           proper = cells_proper roster s.rising 0 s.cells s.placed;
           in_order = cells_in_order roster s.rising 0 s.cells s.placed;

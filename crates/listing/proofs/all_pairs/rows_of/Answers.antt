@@ -5,7 +5,7 @@ use Rattle.network.proofs.Rising.{stands_among}
 use Rattle.legality.specs.Networks.{net_of}
 use Rattle.listing.specs.Rows.{RowsRight, pairs_from}
 use Rattle.listing.proofs.Rows.{rows_more}
-use Rattle.listing.proofs.routes.rows_of.Goals as goal
+use Rattle.listing.proofs.all_pairs.rows_of.Goals as goal
 
 pub add_rows-requires : goal.add_rows-requires
 add_rows-requires g c =

@@ -6,8 +6,8 @@ use Rattle.network.proofs.Rising.{stands_among}
 use Rattle.legality.specs.Networks.{net_of}
 use Rattle.listing.specs.Rows.{RowsRight, pairs_of}
 use Rattle.listing.proofs.Rows.{row_more, row_same}
-use Rattle.listing.proofs.routes.add_rows.Goals as goal
-use Rattle.listing.proofs.routes.add_rows.Goals.{then-destination-source+in_ok-push, else-destination-source}
+use Rattle.listing.proofs.all_pairs.add_rows.Goals as goal
+use Rattle.listing.proofs.all_pairs.add_rows.Goals.{then-destination-source+in_ok-push, else-destination-source}
 
 pub row_of-requires : goal.row_of-requires
 row_of-requires g c =

@@ -7,8 +7,8 @@ use Rattle.settle.specs.Memory.{memory_of}
 use Rattle.settle.specs.Settled.{cause}
 use Rattle.runs.proofs.Filled.{holds_more}
 use Rattle.listing.proofs.AllSettled.{no_cause, has_more}
-use Rattle.listing.proofs.routes.settle_all.Given as given
-use Rattle.listing.proofs.routes.settle_all.Goals as goal
+use Rattle.listing.proofs.all_pairs.settle_all.Given as given
+use Rattle.listing.proofs.all_pairs.settle_all.Goals as goal
 
 pub loop-destination-init : goal.loop-destination-init
 loop-destination-init g c = (refl, refl, refl, refl, c.requires.slots, c.requires.numbers, ([], c.requires.holds, λ a h. absurd h))

@@ -6,7 +6,7 @@ use Rattle.routes.proofs.Answered.{sends}
 use Rattle.listing.specs.declared.types.Row.{Row}
 use Rattle.listing.specs.Rows.{RowRight}
 use Rattle.listing.proofs.Rowed.{row_there, row_nowhere}
-use Rattle.listing.proofs.routes.row_of.Goals as goal
+use Rattle.listing.proofs.all_pairs.row_of.Goals as goal
 
 pub returns-in-Ok : goal.returns-in-Ok
 returns-in-Ok g c =

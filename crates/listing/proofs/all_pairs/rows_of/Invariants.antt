@@ -1,7 +1,7 @@
 use Rattle.std.proofs.Common.{take, vec_items}
 use Rattle.legality.specs.Networks.{net_of}
 use Rattle.listing.specs.Rows.{RowsRight, pairs_from}
-use Rattle.listing.proofs.routes.rows_of.Given as goal
+use Rattle.listing.proofs.all_pairs.rows_of.Given as goal
 
 abbrev pub invariant-loop-source : goal.invariant-loop-source
 invariant-loop-source g l =

@@ -2,7 +2,7 @@ use Rattle.std.proofs.Common.{◌≡◌, ℕ, ◌*◌, ◌≤◌, true, List, le
 use Rattle.network.specs.Rosters.{Among}
 use Rattle.measure.specs.Delay.{delay}
 use Rattle.routes.specs.Routes.{has, Holds}
-use Rattle.listing.proofs.routes.settle_all.Given as goal
+use Rattle.listing.proofs.all_pairs.settle_all.Given as goal
 
 -- the ASes up to here are settled
 abbrev pub invariant-loop-destination : goal.invariant-loop-destination

@@ -2,7 +2,7 @@ use Rattle.std.proofs.Common.{◌≡◌, List, ◌++◌, take, vec_items}
 use Rattle.legality.specs.Networks.{net_of}
 use Rattle.listing.specs.declared.types.Row.{Row}
 use Rattle.listing.specs.Rows.{RowsRight, pairs_of}
-use Rattle.listing.proofs.routes.add_rows.Given as goal
+use Rattle.listing.proofs.all_pairs.add_rows.Given as goal
 
 abbrev pub invariant-loop-destination : goal.invariant-loop-destination
 invariant-loop-destination g l =
