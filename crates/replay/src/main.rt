@@ -6,7 +6,9 @@ use scripts::answers::page_of;
 use scripts::parse::parse_script;
 use scripts::run::run_script;
 use scripts::types::Script;
+use std::io;
 use std::io::Read;
+use std::process::ExitCode;
 
 // Runs a script that is read, and prints its page.
 fn play_script(rt: &HostRuntime, script: &Script) -> anyhow::Result<()> {
@@ -27,10 +29,10 @@ fn replay_input(rt: &HostRuntime) -> anyhow::Result<()> {
     }
 }
 
-fn main(rt: HostRuntime) -> anyhow::Result<()> {
-    let answer = replay_input(&rt);
-    if let Err(error) = &answer {
+fn main(rt: HostRuntime) -> io::Result<ExitCode> {
+    if let Err(error) = replay_input(&rt) {
         eprintln!(rt; "{error}")?;
+        return Ok(ExitCode::FAILURE);
     }
-    answer
+    Ok(ExitCode::SUCCESS)
 }
