@@ -4,7 +4,7 @@
 ghost use Rattle.std.specs.Prelude.{◌≡◌, ◌≤◌, true, length, IfOk, string_bytes};
 ghost use Rattle.network.specs.Rosters.{climbs};
 ghost use Rattle.listing.specs.Listings.{Tables, Lists};
-ghost use Rattle.listing.specs.Pages.{line as LineOf, fault_numbers, printed};
+ghost use Rattle.listing.specs.Pages.{line as line_of, fault_numbers, printed};
 
 mod all_pairs;
 mod fill;
@@ -83,7 +83,7 @@ pub fn print_listing(heap: Global, listing: &Listing) -> Result<String, AllocErr
 
 // The line of a fault.
 fn fault_line(heap: Global, fault: Fault) -> Result<String, AllocError>
-    ensures { IfOk result (λ text. string_bytes text ≡ LineOf (fault_numbers fault)) }
+    ensures { IfOk result (λ text. string_bytes text ≡ line_of (fault_numbers fault)) }
 {
     let mut text = String::new(heap);
     let numbers = [fault.number(), fault.line, fault.column(), fault.layer()];

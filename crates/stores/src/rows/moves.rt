@@ -1,14 +1,14 @@
 // Rows in the order of the book: where the link of a pair stands, and rows that move up and down.
 ghost use Rattle.std.specs.Prelude.{◌≡◌, ◌<◌, ◌≤◌, length, take};
 ghost use Rattle.std.specs.List.{insert, remove};
-ghost use Rattle.network.specs.Books.{joins as JoinsPair};
+ghost use Rattle.network.specs.Books.{joins as joins_pair};
 ghost use Rattle.stores.specs.Ranks.{less, row_of, memory_with};
 
 use network::types::Link;
 
 // Whether the link is that of the pair.
 fn joins(link: Link, low: u32, high: u32) -> bool
-    ensures { result ≡ JoinsPair low high link }
+    ensures { result ≡ joins_pair low high link }
 {
     link.low == low && link.high == high
 }
