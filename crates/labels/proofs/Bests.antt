@@ -20,9 +20,6 @@ module _ {C : Type 0} {m : Measure C} (laws : Laws m) where
       Best.filled b c p (there b c by) (λ x k h. least x k (back x k h)) (λ x h. first x (back x c h))
 
   module _ (O : ℕ → C → Type 0) (b : ℕ) (c : C) where
-    less_apart : (v : C) → m.less c v ≡ true → c ≡ v → ⊥
-    less_apart v l p = not_both l (subst (λ z. m.less c z ≡ false) p (laws.irreflexive c))
-
     pub best_offer : (old new : Option (ℕ × C)) (w w' : Option C) → Best m O old → Outcome m old w b c new w' → Best m (With O b c) new
     best_offer old new w w' (Best.blank p none) (Outcome.fresh q r s) =
         Best.filled b c r (inr (refl, refl))

@@ -1,10 +1,11 @@
 -- An offer comes to a pair: what holds while links are gone through still holds. Assumes nothing.
 use Rattle.std.proofs.Common.{◌≡◌, ℕ, suc, ◌≤◌, true, ◌≢◌, ◌⊎◌, Some, None, Option, sym, refl, ap, ◌∙◌, subst, inl, inr, ⊎_elim, arith}
+use Rattle.std.proofs.lemmas.Option.{same_Some}
 use Rattle.network.specs.declared.types.Relation.{Relation}
 use Rattle.network.specs.declared.types.Figures.{Figures}
 use Rattle.network.specs.Limits.{Limits}
 use Rattle.network.specs.Rosters.{Among}
-use Rattle.network.proofs.Somes.{some_inj, none_some, same_pair}
+use Rattle.network.proofs.Somes.{none_some, same_pair}
 use Rattle.measure.specs.Measures.{Measure, Laws, AtMost, Within}
 use Rattle.legality.specs.declared.types.Class.{Class}
 use Rattle.legality.specs.Classes.{allowed}
@@ -197,14 +198,14 @@ module _ {C : Type 0} {m : Measure C} {net : Network} (laws : Laws m) (sound : S
       -- What the offer makes of the pair.
       module _ (t' : Table C) (w' : Waiting C) (out : Outcome m (t a e) (w a e) b (m.extend c f) (t' a e) (w' a e)) (same_t : Elsewhere t t' a e) (same_w : Elsewhere w w' a e) where
         waiting_here : (o : Outcome m (t a e) (w a e) b (m.extend c f) (t' a e) (w' a e)) → (k : C) → w' a e ≡ Some k → (x : ℕ) × (t' a e ≡ Some (x, k))
-        waiting_here (Outcome.fresh p n s) k h = (b, n ∙ ap (λ v. Some (b, v)) (some_inj (sym s ∙ h)))
-        waiting_here (Outcome.lower x v p l n s) k h = (b, n ∙ ap (λ v. Some (b, v)) (some_inj (sym s ∙ h)))
+        waiting_here (Outcome.fresh p n s) k h = (b, n ∙ ap (λ v. Some (b, v)) (same_Some _ _ (sym s ∙ h)))
+        waiting_here (Outcome.lower x v p l n s) k h = (b, n ∙ ap (λ v. Some (b, v)) (same_Some _ _ (sym s ∙ h)))
         waiting_here (Outcome.dearer x v p l n s) k h = let z = r.waiting a e k (sym s ∙ h) in (x, n ∙ ap (λ v. Some (x, v)) (same_pair p z.1).1)
         waiting_here (Outcome.tied x y p n i j l s) k h = let z = r.waiting a e k (sym s ∙ h) in (y, n ∙ ap (λ v. Some (y, v)) (same_pair p z.1).1)
 
         floor_here : (o : Outcome m (t a e) (w a e) b (m.extend c f) (t' a e) (w' a e)) → (k : C) → w' a e ≡ Some k → AtMost m c k
-        floor_here (Outcome.fresh p n s) k h = subst (AtMost m c) (some_inj (sym s ∙ h)) (less_at_most laws c (m.extend c f) rises)
-        floor_here (Outcome.lower x v p l n s) k h = subst (AtMost m c) (some_inj (sym s ∙ h)) (less_at_most laws c (m.extend c f) rises)
+        floor_here (Outcome.fresh p n s) k h = subst (AtMost m c) (same_Some _ _ (sym s ∙ h)) (less_at_most laws c (m.extend c f) rises)
+        floor_here (Outcome.lower x v p l n s) k h = subst (AtMost m c) (same_Some _ _ (sym s ∙ h)) (less_at_most laws c (m.extend c f) rises)
         floor_here (Outcome.dearer x v p l n s) k h = r.floor a e k (sym s ∙ h)
         floor_here (Outcome.tied x y p n i j l s) k h = r.floor a e k (sym s ∙ h)
 

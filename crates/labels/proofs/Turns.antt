@@ -1,10 +1,11 @@
 -- The turns of the method: its start, a pair that is taken, the end of its links, and the end of all. Assumes nothing.
 use Rattle.std.proofs.Common.{◌≡◌, ℕ, ◌<◌, ◌≢◌, ◌⊎◌, Some, None, Option, sym, refl, ap, ◌∙◌, subst, inl, inr, arith}
+use Rattle.std.proofs.lemmas.Option.{same_Some}
 use Rattle.std.proofs.lemmas.Bool.{cases_eq}
 use Rattle.network.specs.declared.types.Relation.{Relation}
 use Rattle.network.specs.declared.types.Figures.{Figures}
 use Rattle.network.specs.Rosters.{Among}
-use Rattle.network.proofs.Somes.{some_inj, none_some}
+use Rattle.network.proofs.Somes.{none_some}
 use Rattle.measure.specs.Measures.{Measure, Laws, AtMost, Within}
 use Rattle.legality.specs.declared.types.Class.{Class}
 use Rattle.legality.specs.Networks.{Network, Sound}
@@ -59,7 +60,7 @@ module _ {C : Type 0} {m : Measure C} {net : Network} (laws : Laws m) (sound : S
             go (inr n) = ap (λ o. done o (w a e)) (blank a e n) ∙ ap (done None) (idle a e n)
 
         filled : (a : ℕ) (e : Class) (k : C) → w a e ≡ Some k → (a ≡ d) ⊎ (a ≢ d) → (x : ℕ) × (t a e ≡ Some (x, k))
-        filled a e k h (inl i) = (d, subst (λ v. t v e ≡ Some (d, m.start)) (sym i) (here e) ∙ ap (λ v. Some (d, v)) (some_inj (sym (subst (λ v. w v e ≡ Some m.start) (sym i) (waits e)) ∙ h)))
+        filled a e k h (inl i) = (d, subst (λ v. t v e ≡ Some (d, m.start)) (sym i) (here e) ∙ ap (λ v. Some (d, v)) (same_Some _ _ (sym (subst (λ v. w v e ≡ Some m.start) (sym i) (waits e)) ∙ h)))
         filled a e k h (inr n) = absurd (none_some (idle a e n) h)
 
         known : (a : ℕ) (e : Class) (x : ℕ) (k : C) → t a e ≡ Some (x, k) → (a ≡ d) ⊎ (a ≢ d) → Among a net.roster
@@ -68,7 +69,7 @@ module _ {C : Type 0} {m : Measure C} {net : Network} (laws : Laws m) (sound : S
 
         zero_cost : (a : ℕ) (e : Class) (x : ℕ) (k : C) → t a e ≡ Some (x, k) → (a ≡ d) ⊎ (a ≢ d) → Reach m (size (taken t w) net.roster) k
         zero_cost a e x k h (inl i) =
-            let same : (d, m.start) ≡ (x, k) = some_inj (sym (subst (λ v. t v e ≡ Some (d, m.start)) (sym i) (here e)) ∙ h) in
+            let same : (d, m.start) ≡ (x, k) = same_Some _ _ (sym (subst (λ v. t v e ≡ Some (d, m.start)) (sym i) (here e)) ∙ h) in
             subst (Reach m (size (taken t w) net.roster)) (ap (λ v. v.1) same) (reach_none laws (size (taken t w) net.roster))
         zero_cost a e x k h (inr n) = absurd (none_some (blank a e n) h)
 
@@ -97,7 +98,7 @@ module _ {C : Type 0} {m : Measure C} {net : Network} (laws : Laws m) (sound : S
       taken_most : (a : ℕ) (e : Class) (x : ℕ) (k : C) → taken t w' a e ≡ Some (x, k) → AtMost m k c
       taken_most =
           everywhere (λ a e. (x : ℕ) (k : C) → taken t w' a e ≡ Some (x, k) → AtMost m k c) b e'
-          (λ x k h. let same : (entry.0, c) ≡ (x, k) = some_inj (sym some ∙ h) in subst (λ v. AtMost m v c) (ap (λ v. v.1) same) (laws.irreflexive c))
+          (λ x k h. let same : (entry.0, c) ≡ (x, k) = same_Some _ _ (sym some ∙ h) in subst (λ v. AtMost m v c) (ap (λ v. v.1) same) (laws.irreflexive c))
           (λ a e n x k h. going.order a e x k (sym (others a e n) ∙ h) b e' c waited)
 
       pub begin : (Fresh : ℕ → Class → Type 0) → ((x : ℕ) (y : Class) → Fresh x y) → Relaxing m net d b e' c (taken t w') Fresh t w'

@@ -1,18 +1,20 @@
 -- The network of a roster and a book: its steps go over the links of the book, and it is sound. Assumes nothing.
+use Rattle.std.specs.Prelude.{slice_get}
+use Rattle.std.proofs.lemmas.Option.{same_Some}
 use Rattle.std.proofs.Common.{◌≡◌, ℕ, suc, ◌<◌, min, max, true, false, cond, eqb, ◌≢◌, ◌⊎◌, List, [], ◌∷◌, length, Some, None, Option, sym, refl, ap, ◌∙◌, subst, subst₂, inl, inr, ⊎_elim, arith}
 use Rattle.std.proofs.lemmas.Bool.{cases_Bool, cases_eq, cases_lt, and_parts, eqb-true, eq-eqb, ne_eqb, cond-true, cond-false}
 use Rattle.network.specs.declared.types.Figures.{Figures}
 use Rattle.network.specs.declared.types.Link.{Link}
 use Rattle.network.specs.declared.types.Relation.{Relation}
 use Rattle.network.specs.declared.types.Relation.TheVariants.{Provider, Customer, Peer}
-use Rattle.network.specs.Rosters.{Among, at}
+use Rattle.network.specs.Rosters.{Among}
 use Rattle.network.specs.Limits.{Limits}
 use Rattle.network.specs.Books.{joins, find, link_of, turned}
 use Rattle.network.specs.Steps.{step_over, far_end}
 use Rattle.network.specs.Sound as store
 use Rattle.network.specs.Sound.{Proper}
 use Rattle.network.proofs.Single.{all_at, only}
-use Rattle.network.proofs.Somes.{some_inj, none_some, same_pair}
+use Rattle.network.proofs.Somes.{none_some, same_pair}
 use Rattle.legality.specs.Networks.{Sound, net_of, Joins}
 
 turned_twice : (r : Relation) → turned (turned r) ≡ r
@@ -37,7 +39,7 @@ end_none l b n k = end_other l b n ∙ cond-false (eqb l.high b) (Some (l.low, l
 pub record Found (book : List Link) (low high : ℕ) (l : Link) : Type 0 where
   pub spot : ℕ
   pub within : spot < length book
-  pub stands : at book spot ≡ Some l
+  pub stands : slice_get book spot ≡ Some l
   pub lower : l.low ≡ low
   pub higher : l.high ≡ high
 
@@ -47,7 +49,7 @@ found (x ∷ xs) low high l e = go (λ k. found xs low high l k) (cases_Bool (jo
   where
     go : (find xs low high ≡ Some l → Found xs low high l) → (joins low high x ≡ true) ⊎ (joins low high x ≡ false) → Found (x ∷ xs) low high l
     go more (inl y) =
-        let is : x ≡ l = some_inj (sym (cond-true (joins low high x) (Some x) (find xs low high) y) ∙ e) in
+        let is : x ≡ l = same_Some _ _ (sym (cond-true (joins low high x) (Some x) (find xs low high) y) ∙ e) in
         let both = and_parts (eqb x.low low) (eqb x.high high) y in
         record {
           spot = 0;
@@ -67,7 +69,7 @@ record Stepped (book : List Link) (a b : ℕ) (f : Figures) : Type 0 where
   figures_are : f ≡ link.figures
 
 module _ (roster : List ℕ) (book : List Link) (sound : store.Sound roster book) where
-  pub proper_at : (i : ℕ) (l : Link) → at book i ≡ Some l → Proper roster l
+  pub proper_at : (i : ℕ) (l : Link) → slice_get book i ≡ Some l → Proper roster l
   proper_at = all_at (Proper roster) book sound.proper
 
   stepped : (a b : ℕ) (w : Relation) (f : Figures) → (net_of roster book).step a b ≡ Some (w, f) → Stepped book a b f
@@ -75,21 +77,21 @@ module _ (roster : List ℕ) (book : List Link) (sound : store.Sound roster book
     where
       go : (o : Option Link) → link_of book a b ≡ o → step_over a o ≡ Some (w, f) → Stepped book a b f
       go None p q = absurd (none_some refl q)
-      go (Some l) p q = record { link = l; found_at = found book (min a b) (max a b) l p; figures_are = sym (ap (λ z. z.1) (some_inj q)) }
+      go (Some l) p q = record { link = l; found_at = found book (min a b) (max a b) l p; figures_are = sym (ap (λ z. z.1) (same_Some _ _ q)) }
 
   ends : (a b : ℕ) (l : Link) → l.low ≡ min a b → l.high ≡ max a b → Joins l a b
   ends a b l lo hi = elim (cases_lt a b) [ inl h ↦ inl (omega arith, omega arith) | inr h ↦ inr (omega arith, omega arith) ]
 
   -- the link that a step goes over
   pub step_joins : (a b : ℕ) (w : Relation) (f : Figures) → (net_of roster book).step a b ≡ Some (w, f) →
-      (i : ℕ) × (l : Link) × (i < length book) × (at book i ≡ Some l) × Joins l a b
+      (i : ℕ) × (l : Link) × (i < length book) × (slice_get book i ≡ Some l) × Joins l a b
   step_joins a b w f e =
       let s = stepped a b w f e in
       let k = s.found_at in
       (k.spot, s.link, k.within, k.stands, ends a b s.link k.lower k.higher)
 
   -- the step over a link of the book, from its higher AS ..
-  pub from_high : (i : ℕ) (l : Link) → at book i ≡ Some l → (net_of roster book).step l.high l.low ≡ Some (turned l.relation, l.figures)
+  pub from_high : (i : ℕ) (l : Link) → slice_get book i ≡ Some l → (net_of roster book).step l.high l.low ≡ Some (turned l.relation, l.figures)
   from_high i l p =
       let lt = (proper_at i l p).ordered in
       let lo : min l.high l.low ≡ l.low = omega arith in
@@ -99,7 +101,7 @@ module _ (roster : List ℕ) (book : List Link) (sound : store.Sound roster book
       ap (λ z. Some (z, l.figures)) (cond-false (eqb l.low l.high) l.relation (turned l.relation) (ne_eqb l.low l.high (λ e. omega arith)))
 
   -- .. and from its lower one
-  pub from_low : (i : ℕ) (l : Link) → at book i ≡ Some l → (net_of roster book).step l.low l.high ≡ Some (l.relation, l.figures)
+  pub from_low : (i : ℕ) (l : Link) → slice_get book i ≡ Some l → (net_of roster book).step l.low l.high ≡ Some (l.relation, l.figures)
   from_low i l p =
       let lt = (proper_at i l p).ordered in
       let lo : min l.low l.high ≡ l.low = omega arith in
@@ -109,7 +111,7 @@ module _ (roster : List ℕ) (book : List Link) (sound : store.Sound roster book
       ap (λ z. Some (z, l.figures)) (cond-true (eqb l.low l.low) l.relation (turned l.relation) (eq-eqb l.low l.low refl))
 
   -- both of them, between a and b
-  pub both_ways : (i : ℕ) (l : Link) → at book i ≡ Some l → (a b : ℕ) → l.low ≡ a → l.high ≡ b →
+  pub both_ways : (i : ℕ) (l : Link) → slice_get book i ≡ Some l → (a b : ℕ) → l.low ≡ a → l.high ≡ b →
       ((net_of roster book).step a b ≡ Some (l.relation, l.figures)) × ((net_of roster book).step b a ≡ Some (turned l.relation, l.figures))
   both_ways i l p a b h k = (
     subst₂ (λ x y. (net_of roster book).step x y ≡ Some (l.relation, l.figures)) h k (from_low i l p),
@@ -138,7 +140,7 @@ module _ (roster : List ℕ) (book : List Link) (sound : store.Sound roster book
       ends_known : (a b : ℕ) (w : Relation) (f : Figures) → (net_of roster book).step a b ≡ Some (w, f) → Among a roster × Among b roster × (a ≢ b)
       ends_known a b w f e = let j = step_joins a b w f e in known a b j.1 (proper_at j.0 j.1 j.3) j.4
 
-      back : (a b : ℕ) (w : Relation) (f : Figures) → (net_of roster book).step a b ≡ Some (w, f) → (i : ℕ) (l : Link) → at book i ≡ Some l → Joins l a b →
+      back : (a b : ℕ) (w : Relation) (f : Figures) → (net_of roster book).step a b ≡ Some (w, f) → (i : ℕ) (l : Link) → slice_get book i ≡ Some l → Joins l a b →
           (net_of roster book).step b a ≡ Some (turned w, f)
       back a b w f e i l p (inl h) =
           let both = both_ways i l p a b h.0 h.1 in
@@ -154,7 +156,7 @@ module _ (roster : List ℕ) (book : List Link) (sound : store.Sound roster book
     pub linked : (net_of roster book).step a b ≡ Some (w, l.figures)
     pub only : (x : ℕ) → Joins l x b → x ≡ a
 
-  pub far_end_some : (i : ℕ) (l : Link) → at book i ≡ Some l → (b a : ℕ) (w : Relation) → far_end l b ≡ Some (a, w) → End l b a w
+  pub far_end_some : (i : ℕ) (l : Link) → slice_get book i ≡ Some l → (b a : ℕ) (w : Relation) → far_end l b ≡ Some (a, w) → End l b a w
   far_end_some i l p b a w e = go (cases_eq l.low b) (cases_eq l.high b)
     where
       lt : l.low < l.high
@@ -163,14 +165,14 @@ module _ (roster : List ℕ) (book : List Link) (sound : store.Sound roster book
       go : (l.low ≡ b) ⊎ (l.low ≢ b) → (l.high ≡ b) ⊎ (l.high ≢ b) → End l b a w
       go (inl h) (inl k) = absurd (omega (arith, lt))
       go (inl h) (inr k) =
-          let same : (l.high, turned l.relation) ≡ (a, w) = some_inj (sym (end_high l b h) ∙ e) in
+          let same : (l.high, turned l.relation) ≡ (a, w) = same_Some _ _ (sym (end_high l b h) ∙ e) in
           let ea : l.high ≡ a = ap (λ z. z.0) same in
           record {
             linked = (both_ways i l p b a h ea).1 ∙ ap (λ z. Some (z.1, l.figures)) same;
             only = λ x j. ⊎_elim (λ (z : (l.low ≡ x) × (l.high ≡ b)). absurd (k z.1)) (λ (z : (l.low ≡ b) × (l.high ≡ x)). sym z.1 ∙ ea) j;
           }
       go (inr n) (inl h) =
-          let same : (l.low, l.relation) ≡ (a, w) = some_inj (sym (end_low l b n h) ∙ e) in
+          let same : (l.low, l.relation) ≡ (a, w) = same_Some _ _ (sym (end_low l b n h) ∙ e) in
           let ea : l.low ≡ a = ap (λ z. z.0) same in
           record {
             linked = (both_ways i l p a b ea h).0 ∙ ap (λ z. Some (z.1, l.figures)) same;

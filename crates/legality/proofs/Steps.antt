@@ -1,11 +1,12 @@
 -- One step of a legal path: what its rest is, and how a step goes before a legal path. Assumes nothing.
 use Rattle.std.proofs.Common.{◌≡◌, ℕ, ◌≢◌, ◌⊎◌, List, [], ◌∷◌, Some, sym, refl, subst, inl, inr, arith}
+use Rattle.std.proofs.lemmas.Option.{same_Some}
 use Rattle.network.specs.declared.types.Figures.{Figures}
 use Rattle.network.specs.declared.types.Relation.{Relation}
 use Rattle.network.specs.declared.types.Relation.TheVariants.{Provider, Customer, Peer}
 use Rattle.network.specs.Books.{turned}
 use Rattle.network.specs.Rosters.{Among}
-use Rattle.network.proofs.Somes.{some_inj, none_some, same_pair}
+use Rattle.network.proofs.Somes.{none_some, same_pair}
 use Rattle.measure.specs.Measures.{Measure, Laws, AtMost}
 use Rattle.legality.specs.declared.types.Class.{Class}
 use Rattle.legality.specs.declared.types.Class.TheVariants.{Home, Outside}
@@ -31,7 +32,7 @@ Covers Outside Outside = Unit {0}
 pub covers_next : (e : Class) (w : Relation) (e' : Class) → allowed e w ≡ Some e' → Covers e e'
 covers_next Home w e' p = tt
 covers_next Outside Customer e' p = absurd (none_some refl p)
-covers_next Outside Provider e' p = subst (λ v. Covers Outside v) (some_inj p) tt
+covers_next Outside Provider e' p = subst (λ v. Covers Outside v) (same_Some _ _ p) tt
 covers_next Outside Peer e' p = absurd (none_some refl p)
 
 -- to show P of each list that begins with a
@@ -129,10 +130,10 @@ module _ {net : Network} (sound : Sound net) where
 
   serve : (a b c : ℕ) (r : List ℕ) (e e' : Class) (w : Relation) (f : Figures) → net.step a b ≡ Some (w, f) → allowed e w ≡ Some e' → Open net e' (b ∷ (c ∷ r)) → CustomerOf net b a ⊎ CustomerOf net b c
   serve a b c r Home e' Customer f p q o = inl (f, sound.back a b Customer f p)
-  serve a b c r Home e' Provider f p q o = inr (subst (λ v. Open net v (b ∷ (c ∷ r))) (sym (some_inj q)) o)
-  serve a b c r Home e' Peer f p q o = inr (subst (λ v. Open net v (b ∷ (c ∷ r))) (sym (some_inj q)) o)
+  serve a b c r Home e' Provider f p q o = inr (subst (λ v. Open net v (b ∷ (c ∷ r))) (sym (same_Some _ _ q)) o)
+  serve a b c r Home e' Peer f p q o = inr (subst (λ v. Open net v (b ∷ (c ∷ r))) (sym (same_Some _ _ q)) o)
   serve a b c r Outside e' Customer f p q o = absurd (none_some refl q)
-  serve a b c r Outside e' Provider f p q o = inr (subst (λ v. Open net v (b ∷ (c ∷ r))) (sym (some_inj q)) o)
+  serve a b c r Outside e' Provider f p q o = inr (subst (λ v. Open net v (b ∷ (c ∷ r))) (sym (same_Some _ _ q)) o)
   serve a b c r Outside e' Peer f p q o = absurd (none_some refl q)
 
   serve_all : (a b : ℕ) (r : List ℕ) (e e' : Class) (w : Relation) (f : Figures) → net.step a b ≡ Some (w, f) → allowed e w ≡ Some e' → Open net e' (b ∷ r) → Served net (b ∷ r) → Served net (a ∷ (b ∷ r))

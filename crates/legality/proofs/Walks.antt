@@ -1,7 +1,8 @@
 -- The walk of a table's next ASes: there is one, and it is a shortest path. Assumes nothing.
 use Rattle.std.proofs.Common.{◌≡◌, ℕ, List, [], ◌∷◌, Some, sym, refl, ap, ◌∙◌}
+use Rattle.std.proofs.lemmas.Option.{same_Some}
 use Rattle.network.specs.Rosters.{Among}
-use Rattle.network.proofs.Somes.{some_inj, same_pair}
+use Rattle.network.proofs.Somes.{same_pair}
 use Rattle.measure.specs.Measures.{Measure, Laws}
 use Rattle.legality.specs.declared.types.Class.{Class}
 use Rattle.legality.specs.Classes.{allowed}
@@ -24,7 +25,7 @@ one_walk {C} net t d e e' a (x ∷ (y ∷ r)) (u ∷ (v ∷ s)) i f f' g g' =
     let entry : t x e ≡ Some (v, g'.1.0) = ap (t x) i ∙ ap (λ z. t z e') start ∙ g'.1.1 in
     let next : y ≡ v = (same_pair g.1.1 entry).0 in
     let relation : g.2.0 ≡ g'.2.0 = (same_pair g.2.3 (ap (net.step x) next ∙ ap (λ z. net.step z v) start ∙ g'.2.3)).0 in
-    let class : g.2.2 ≡ g'.2.2 = some_inj (sym g.2.4 ∙ ap (λ z. allowed z g.2.0) i ∙ ap (allowed e') relation ∙ g'.2.4) in
+    let class : g.2.2 ≡ g'.2.2 = same_Some _ _ (sym g.2.4 ∙ ap (λ z. allowed z g.2.0) i ∙ ap (allowed e') relation ∙ g'.2.4) in
     let rest : y ∷ r ≡ v ∷ s = one_walk net t d g.2.2 g'.2.2 v (y ∷ r) (v ∷ s) class next refl g.2.5 g'.2.5 in
     ap (λ z. z ∷ (y ∷ r)) start ∙ ap (λ z. u ∷ z) rest
 

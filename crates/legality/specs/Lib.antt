@@ -3,3 +3,4 @@ pub mod Networks
 pub mod Paths
 pub mod Tables
 pub mod Theorems
+pub mod Words

@@ -1,6 +1,7 @@
 pub mod Answered
 pub mod Books
 pub mod Causes
+pub mod Climbs
 pub mod Options
 pub mod Rising
 pub mod Rosters

@@ -1,8 +1,9 @@
 -- Rosters and the places in them: of two places the later one has the greater AS, so that no AS stands twice. Assumes nothing.
+use Rattle.std.proofs.lemmas.Option.{same_Some}
 use Rattle.std.proofs.Common.{◌≡◌, ℕ, zero, suc, ◌<◌, true, eqb, ltb, ◌≢◌, ◌⊎◌, List, [], ◌∷◌, length, get_or, Some, None, Option, sym, refl, ap, ◌∙◌, subst, inl, inr, arith}
 use Rattle.std.proofs.lemmas.Bool.{and_parts, ltb-true, cases_eq, cases_order, eq-eqb, ne_eqb, cond-true, cond-false}
-use Rattle.network.specs.Rosters.{Among, at, later, place, climbs}
-use Rattle.network.proofs.Somes.{some_inj, none_some}
+use Rattle.network.specs.Rosters.{Among, later, place, climbs}
+use Rattle.network.proofs.Somes.{none_some}
 
 abbrev pub Rising : List ℕ → Type 0
 Rising xs = (i j : ℕ) → i < j → j < length xs → get_or xs i 0 < get_or xs j 0
@@ -28,7 +29,7 @@ pub record Stands (roster : List ℕ) (a i : ℕ) : Type 0 where
 
 later_some : (o : Option ℕ) (i : ℕ) → later o ≡ Some i → (j : ℕ) × (o ≡ Some j) × (i ≡ suc j)
 later_some None i e = absurd (none_some refl e)
-later_some (Some j) i e = (j, refl, sym (some_inj e))
+later_some (Some j) i e = (j, refl, sym (same_Some _ _ e))
 
 pub place_stands : (roster : List ℕ) (a i : ℕ) → place roster a ≡ Some i → Stands roster a i
 place_stands [] a i e = absurd (none_some refl e)
@@ -36,7 +37,7 @@ place_stands (x ∷ xs) a i e = go (λ j. place_stands xs a j) (cases_eq x a)
   where
     go : ((j : ℕ) → place xs a ≡ Some j → Stands xs a j) → (x ≡ a) ⊎ (x ≢ a) → Stands (x ∷ xs) a i
     go more (inl h) =
-        let z : 0 ≡ i = some_inj (sym (cond-true (eqb x a) (Some 0) (later (place xs a)) (eq-eqb x a h)) ∙ e) in
+        let z : 0 ≡ i = same_Some _ _ (sym (cond-true (eqb x a) (Some 0) (later (place xs a)) (eq-eqb x a h)) ∙ e) in
         subst (Stands (x ∷ xs) a) z (record { within = omega arith; is = h })
     go more (inr n) =
         let z = later_some (place xs a) i (sym (cond-false (eqb x a) (Some 0) (later (place xs a)) (ne_eqb x a n)) ∙ e) in
@@ -60,17 +61,6 @@ stands_among (x ∷ xs) zero h = inl refl
 stands_among (x ∷ xs) (suc i) h = inr (stands_among xs i (omega arith))
 
 -- what stands at a place of a list
-pub at_known : {X : Type 0} (xs : List X) (i : ℕ) (x : X) → i < length xs → at xs i ≡ Some (get_or xs i x)
-at_known [] i x h = absurd (omega arith)
-at_known (y ∷ ys) zero x h = refl
-at_known (y ∷ ys) (suc i) x h = at_known ys i x (omega arith)
-
-pub at_stands : {X : Type 0} (xs : List X) (i : ℕ) (x y : X) → at xs i ≡ Some x → (i < length xs) × (get_or xs i y ≡ x)
-at_stands [] i x y e = absurd (none_some refl e)
-at_stands (z ∷ zs) zero x y e = (omega arith, some_inj e)
-at_stands (z ∷ zs) (suc i) x y e = let more = at_stands zs i x y e in (omega (arith, more.0), more.1)
-
--- no AS stands twice
 pub rising_inj : (roster : List ℕ) → Rising roster → (i j : ℕ) → i < length roster → j < length roster → get_or roster i 0 ≡ get_or roster j 0 → i ≡ j
 rising_inj roster up i j hi hj e = go (cases_order i j)
   where

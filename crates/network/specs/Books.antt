@@ -1,9 +1,11 @@
 -- The plain book: a list of links in increasing order of lower AS, then higher AS. Assumes nothing.
-use Rattle.std.specs.Prelude.{ℕ, min, max, Bool, cond, ◌&&◌, ◌||◌, List, [], ◌∷◌, Some, None, Option, ◌==◌, nat_lt}
+use Rattle.std.specs.Prelude.{ℕ, min, max, Bool, cond, ◌&&◌, ◌||◌, List, [], ◌∷◌, Some, None, Ok, Err, Option, Result, ◌==◌, nat_le, nat_lt}
 use Rattle.network.specs.declared.types.Link.{Link}
 use Rattle.network.specs.declared.types.Figures.{Figures}
 use Rattle.network.specs.declared.types.Relation.{Relation}
 use Rattle.network.specs.declared.types.Relation.TheVariants.{Provider, Customer, Peer}
+use Rattle.network.specs.declared.types.EditRefusal.{EditRefusal}
+use Rattle.network.specs.declared.types.EditRefusal.TheVariants.{BadRelation}
 
 -- the link is that of this pair, lower AS first
 abbrev pub joins : ℕ → ℕ → Link → Bool
@@ -42,6 +44,10 @@ without (l ∷ ls) low high = cond (joins low high l) ls (l ∷ without ls low h
 -- the relation that a number stands for: 1, 2 and 3
 abbrev pub relation_of : ℕ → Relation
 relation_of r = cond (r == 1) Provider (cond (r == 2) Customer Peer)
+
+-- .. and the answer to it; any other number is refused
+abbrev pub relation_named : ℕ → Result Relation EditRefusal
+relation_named r = cond (nat_le 1 r && nat_le r 3) (Ok (relation_of r)) (Err BadRelation)
 
 -- the same link, told from its other end
 abbrev pub turned : Relation → Relation

@@ -6,3 +6,4 @@ pub mod Causes
 pub mod Edits
 pub mod Numbers
 pub mod Steps
+pub mod Words

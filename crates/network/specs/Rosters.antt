@@ -1,5 +1,5 @@
 -- Rosters: strictly increasing lists of AS numbers, and places in them, from 0. Assumes nothing.
-use Rattle.std.specs.Prelude.{◌≡◌, ℕ, zero, suc, Bool, true, cond, ◌&&◌, ◌⊎◌, List, [], ◌∷◌, length, Some, None, Ok, Err, Option, Result, ◌==◌, nat_le, nat_lt}
+use Rattle.std.specs.Prelude.{◌≡◌, ℕ, suc, Bool, true, cond, ◌&&◌, ◌⊎◌, List, [], ◌∷◌, length, Some, None, Ok, Err, Option, Result, ◌==◌, nat_le, nat_lt}
 use Rattle.network.specs.declared.types.RosterRefusal.{RosterRefusal}
 use Rattle.network.specs.declared.types.RosterRefusal.TheVariants.{NotARoster}
 
@@ -7,12 +7,6 @@ use Rattle.network.specs.declared.types.RosterRefusal.TheVariants.{NotARoster}
 abbrev pub Among : {X : Type 0} → X → List X → Type 0
 Among x [] = ⊥
 Among x (y ∷ ys) = (x ≡ y) ⊎ Among x ys
-
--- what stands at a place
-abbrev pub at : {X : Type 0} → List X → ℕ → Option X
-at [] i = None
-at (x ∷ xs) zero = Some x
-at (x ∷ xs) (suc i) = at xs i
 
 abbrev pub later : Option ℕ → Option ℕ
 later None = None

@@ -11,15 +11,10 @@ pub const MOST_ASES: usize = 512;
 pub fn check_roster(numbers: &[u32], most: usize) -> Result<(), RosterRefusal>
     ensures { result ≡ roster_answer most numbers.now }
 {
-    if numbers.is_empty() || numbers.len() > most {
-        return Err(RosterRefusal::NotARoster);
+    let positive = numbers.first().is_some_and(|first| *first > 0);
+    if positive && numbers.len() <= most && numbers.is_sorted_by(|a, b| a < b) {
+        Ok(())
+    } else {
+        Err(RosterRefusal::NotARoster)
     }
-    let mut last = 0;
-    for number in numbers {
-        if *number <= last {
-            return Err(RosterRefusal::NotARoster);
-        }
-        last = *number;
-    }
-    Ok(())
 }

@@ -1,7 +1,7 @@
 // What a store of links lets ask and edit.
-ghost use Rattle.std.specs.Prelude.{◌≡◌, ℕ, List, length};
+ghost use Rattle.std.specs.Prelude.{◌≡◌, ℕ, List, length, slice_get};
 ghost use Rattle.network.specs.declared.types.Link.{Link as LinkT};
-ghost use Rattle.network.specs.Rosters.{at, place};
+ghost use Rattle.network.specs.Rosters.{place};
 ghost use Rattle.network.specs.Books.{link_of};
 ghost use Rattle.network.specs.Sound.{Sound};
 ghost use Rattle.network.specs.Edits.{Links, Recosts, Unlinks};
@@ -22,7 +22,7 @@ pub trait Store {
 
     // The AS at a place.
     fn as_at(&self, spot: usize) -> Option<u32>
-        ensures { result ≡ at (roster self.now) spot };
+        ensures { result ≡ slice_get (roster self.now) spot };
 
     // The place of an AS.
     fn place_of(&self, number: u32) -> Option<usize>
@@ -30,7 +30,7 @@ pub trait Store {
 
     // The link at a place.
     fn link_at(&self, spot: usize) -> Option<Link>
-        ensures { result ≡ at (book self.now) spot };
+        ensures { result ≡ slice_get (book self.now) spot };
 
     // The link of two ASes, named in either order; its lower AS comes first.
     fn link_of(&self, first: u32, second: u32) -> Option<Link>
@@ -39,7 +39,9 @@ pub trait Store {
     ghost sound: { (s : Self) → Sound (roster s) (book s) };
 }
 
-// A store that also takes edits of its book. The relation is what the first AS is to the second: 1 its provider, 2 its customer, 3 its peer.
+// A store that also takes edits of its book. Two ASes are named in order, the first looked up before the second (a struct of both
+// would only wrap them). The relation is what the first is to the second: 1 its provider, 2 its customer, 3 its peer; it is a number,
+// since link is asked to refuse another one (a rule).
 pub trait EditableStore: Store {
     ghost limit: { Self → ℕ };
 

@@ -1,3 +1,4 @@
 pub mod Pairs
 pub mod Cells
 pub mod Rows
+pub mod Same

@@ -13,6 +13,10 @@ entry n c = record { next = n; cost = c }
 abbrev pub blank : {C : Type 0} → C → Entry C
 blank start = entry 65535 start
 
+-- the place of the next AS; a blank entry has none
+abbrev pub next_place : {C : Type 0} → Entry C → Option ℕ
+next_place x = cond (x.next == 65535) None (Some x.next)
+
 -- what an entry says: nothing, or the AS at the next place, and the cost
 abbrev pub read : {C : Type 0} → List ℕ → Entry C → Option (ℕ × C)
 read roster x = cond (x.next == 65535) None (Some (slice_index roster x.next, x.cost))

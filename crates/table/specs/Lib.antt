@@ -1,3 +1,4 @@
 pub mod Columns
 pub mod Memory
 pub mod Numbers
+pub mod Words

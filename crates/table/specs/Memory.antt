@@ -1,5 +1,5 @@
 -- The table memory of n ASes: its size, its columns, and when a column is right. Assumes nothing.
-use Rattle.std.specs.Prelude.{ℕ, ◌+◌, ◌*◌, ◌<◌, Bool, ◌||◌, ◌⊎◌, List, length, take, drop, nat_lt, slice_index_or}
+use Rattle.std.specs.Prelude.{◌≡◌, ℕ, ◌+◌, ◌*◌, ◌<◌, Bool, ◌||◌, ◌⊎◌, List, length, take, drop, nat_lt, slice_index_or}
 use Rattle.network.specs.declared.types.Link.{Link}
 use Rattle.network.specs.Rosters.{place}
 use Rattle.measure.specs.Measures.{Measure}
@@ -7,6 +7,7 @@ use Rattle.legality.specs.declared.types.Class.{Class}
 use Rattle.legality.specs.Networks.{net_of}
 use Rattle.legality.specs.Tables.{Table, Global}
 use Rattle.table.specs.declared.types.Entry.{Entry}
+use Rattle.table.specs.declared.types.Table.{Table as TableT}
 use Rattle.table.specs.Columns.{blank, read, number, at_place, Row}
 
 -- too small for n ASes, as a test ..
@@ -16,6 +17,11 @@ small n entries marks = nat_lt (length entries) (2 * n * n) || nat_lt (length ma
 -- .. and as a fact
 abbrev pub Small : {C : Type 0} → ℕ → List (Entry C) → List ℕ → Type 0
 Small n entries marks = (length entries < 2 * n * n) ⊎ (length marks < n)
+
+-- it is the same memory afterwards, which a prime marks, whatever it holds
+pub record SameMemory {C : Type 0} (t t' : TableT C) : Type 0 where
+  pub entries : t'.entries.ghost_name ≡ t.entries.ghost_name
+  pub marks : t'.marks.ghost_name ≡ t.marks.ghost_name
 
 -- where the entry of the destination's place d, an AS's place i and a class stands
 abbrev pub index : ℕ → ℕ → ℕ → Class → ℕ

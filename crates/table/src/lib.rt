@@ -12,8 +12,5 @@ use legality::types::Class;
 pub fn class_number(class: Class) -> usize
     ensures { result ≡ number class }
 {
-    match class {
-        Class::Home => 0,
-        Class::Outside => 1,
-    }
+    class as usize
 }
