@@ -1,8 +1,8 @@
-pub mod Tallies
+pub mod GridRows
 pub mod Pairs
 pub mod Ranks
 pub mod Moves
 pub mod Pairing
-pub mod RowEdits
 pub mod Refusals
 pub mod Edits
+pub mod RowEdits

@@ -1,40 +1,30 @@
 -- The book of a row store, cut at the row of a pair. Assumes nothing.
-use Rattle.std.proofs.Common.{◌≡◌, ℕ, ◌<◌, ◌≤◌, min, max, length, get_or, Some, None, Ok, Err, Result, sym, ap, ◌∙◌, subst, arith}
-use Rattle.std.proofs.lemmas.List.{get_or-take, length-take-le}
-use Rattle.network.specs.declared.types.Link.{Link}
+use Rattle.std.specs.Prelude.{slice_get}
+use Rattle.std.proofs.Common.{◌≡◌, ℕ, min, max, length, Result, sym, subst}
+use Rattle.std.specs.Option.{is_some, option_and_then}
+use Rattle.std.specs.Result.{is_ok, result_ok}
+use Rattle.std.specs.List.Sorted.{IsSearchInRange, IsBinarySearchResult}
+use Rattle.std.proofs.lemmas.List.{length-take-le}
 use Rattle.network.specs.Books.{link_of}
 use Rattle.stores.specs.declared.rows.memory.RowStore.{RowStore}
 use Rattle.stores.specs.Ranks.{row_of}
 use Rattle.stores.specs.Rows.{row_roster, row_book}
 use Rattle.stores.specs.RanksLemmas.{book_in_order}
-use Rattle.stores.proofs.Ranks.{Standing, Absent, Cut, cut, find_standing, find_absent}
+use Rattle.stores.proofs.Ranks.{Cut, cut, rank, row_searched, find_at, found_variant}
 
 module _ (s : RowStore) where
   pub book_length : length (row_book s) ≡ s.used
   book_length = length-take-le s.used s.rows.now s.room
 
-  module _ (a b : ℕ) where
-    pair_cut : (r : Result ℕ ℕ) → r ≡ row_of (row_book s) (min a b) (max a b) → Cut (min a b) (max a b) (row_book s) r
-    pair_cut r e = subst (Cut (min a b) (max a b) (row_book s)) (sym e) (cut (min a b) (max a b) (row_book s) (book_in_order (row_roster s) (row_book s) s.sorted))
+  module _ (a b : ℕ) (r : Result ℕ ℕ) where
+    -- the row of the pair
+    pub pair_cut : r ≡ row_of (row_book s) (min a b) (max a b) → Cut (min a b) (max a b) (row_book s) r
+    pair_cut e = subst (Cut (min a b) (max a b) (row_book s)) (sym e) (cut (min a b) (max a b) (row_book s) (book_in_order (row_roster s) (row_book s) s.sorted))
 
-    -- the link of the pair stands at the row i
-    module _ (i : ℕ) (found : Ok i ≡ row_of (row_book s) (min a b) (max a b)) where
-      pub standing : Standing (min a b) (max a b) (row_book s) i
-      standing = pair_cut (Ok i) found
-
-      pub row_used : i < s.used
-      row_used = let n = book_length in omega (arith, standing.within)
-
-      pub link_standing : (d : Link) → link_of (row_book s) a b ≡ Some (get_or s.rows.now i d)
-      link_standing d = find_standing (min a b) (max a b) (row_book s) i standing d ∙ ap Some (get_or-take s.used s.rows.now i d row_used)
-
-    -- there is none, and it would stand there
-    module _ (i : ℕ) (found : Err i ≡ row_of (row_book s) (min a b) (max a b)) where
-      pub absent : Absent (min a b) (max a b) (row_book s) i
-      absent = pair_cut (Err i) found
-
-      pub row_room : i ≤ s.used
-      row_room = let n = book_length in omega (arith, absent.within)
-
-      pub link_absent : link_of (row_book s) a b ≡ None
-      link_absent = find_absent (min a b) (max a b) (row_book s) i absent
+    -- what the library's search for the pair says of it
+    pub pair_row : (low high : ℕ) → low ≡ min a b → high ≡ max a b → IsSearchInRange r (length (row_book s)) → IsBinarySearchResult (rank low high) (row_book s) r →
+        record { row : r ≡ row_of (row_book s) (min a b) (max a b); within : IsSearchInRange r s.used; variant : is_some (link_of (row_book s) a b) ≡ is_ok r; held : link_of (row_book s) a b ≡ option_and_then (slice_get (row_book s)) (result_ok r) }
+    pair_row low high x y within searched =
+        let row : r ≡ row_of (row_book s) (min a b) (max a b) = rw (← x, ← y) (row_searched low high (row_book s) r (book_in_order (row_roster s) (row_book s) s.sorted) within searched) in
+        let here = pair_cut row in
+        record { row = row; within = subst (IsSearchInRange r) book_length within; variant = found_variant (min a b) (max a b) (row_book s) r here; held = find_at (min a b) (max a b) (row_book s) r here }

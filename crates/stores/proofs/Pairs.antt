@@ -1,6 +1,5 @@
 -- The cell of a pair of ASes of a grid store. Assumes nothing.
-use Rattle.std.proofs.Common.{◌≡◌, ℕ, ◌/◌, ◌%◌, ◌<◌, ◌≤◌, min, max, ◌⊎◌, length, get_or, Some, None, sym, ap, ◌∙◌, subst, ⊎_elim, arith}
-use Rattle.std.proofs.lemmas.List.{length-take}
+use Rattle.std.proofs.Common.{◌≡◌, ℕ, ◌/◌, ◌%◌, ◌<◌, ◌≤◌, min, max, ◌⊎◌, get_or, Some, None, sym, ap, ◌∙◌, subst, ⊎_elim, arith}
 use Rattle.std.proofs.lemmas.Bool.{cases_lt}
 use Rattle.network.specs.Rosters.{Among, place}
 use Rattle.network.specs.Books.{link_of}
@@ -8,7 +7,8 @@ use Rattle.network.proofs.Rising.{place_stands}
 use Rattle.network.proofs.Rosters.{place_none, places_ordered}
 use Rattle.network.proofs.Books.{find_unknown}
 use Rattle.stores.specs.declared.grid.cells.GridStore.{GridStore}
-use Rattle.stores.specs.Grid.{grid_roster, grid_book}
+use Rattle.stores.specs.Grid.{grid_roster, grid_cells, grid_book}
+use Rattle.stores.proofs.GridRows.{cells_length}
 use Rattle.stores.specs.Cells.{cell_at}
 use Rattle.stores.specs.CellsLemmas.{Pair, find_cell, cells_proper}
 
@@ -17,13 +17,10 @@ abbrev pub cell : ℕ → ℕ → ℕ
 cell i j = cell_at (Some i) (Some j)
 
 module _ (s : GridStore) where
-  pub few : length (grid_roster s) ≤ 24
-  few = let n = length-take s.count s.ases in omega arith
-
   -- one of the ASes is not in the roster
   pub link_of_unknown : (a b : ℕ) → (place (grid_roster s) a ≡ None) ⊎ (place (grid_roster s) b ≡ None) → link_of (grid_book s) a b ≡ None
   link_of_unknown a b e =
-      find_unknown (min a b) (max a b) (grid_roster s) (grid_book s) (cells_proper (grid_roster s) s.rising 0 s.cells s.placed) (λ h. let k = known h in ⊎_elim (λ p. place_none (grid_roster s) a p k.0) (λ p. place_none (grid_roster s) b p k.1) e)
+      find_unknown (min a b) (max a b) (grid_roster s) (grid_book s) (cells_proper (grid_roster s) s.rising 0 (grid_cells s) s.placed) (λ h. let k = known h in ⊎_elim (λ p. place_none (grid_roster s) a p k.0) (λ p. place_none (grid_roster s) b p k.1) e)
     where
       known : (Among (min a b) (grid_roster s) × Among (max a b) (grid_roster s)) → Among a (grid_roster s) × Among b (grid_roster s)
       known h =
@@ -42,13 +39,10 @@ module _ (s : GridStore) where
   module _ (a b i j : ℕ) (p : place (grid_roster s) a ≡ Some i) (q : place (grid_roster s) b ≡ Some j) where
     pub places_within : (i < 24) × (j < 24)
     places_within =
-        let n = few in
+        let n = s.few in
         let hi = (place_stands (grid_roster s) a i p).within in
         let hj = (place_stands (grid_roster s) b j q).within in
         (omega arith, omega arith)
-
-    pub cell_within : cell i j < 576
-    cell_within = let w = places_within in omega arith
 
     pub pair_cell : Pair (grid_roster s) (cell i j) (min a b) (max a b)
     pair_cell =
@@ -56,7 +50,7 @@ module _ (s : GridStore) where
         let y = place_stands (grid_roster s) b j q in
         let hi = x.within in
         let hj = y.within in
-        let n = few in
+        let n = s.few in
         let row : cell i j / 24 ≡ min i j = omega arith in
         let column : cell i j % 24 ≡ max i j = omega arith in
         let o = places_ordered (grid_roster s) s.rising i j hi hj in
@@ -67,8 +61,9 @@ module _ (s : GridStore) where
           high_is = ap (λ z. max z b) (sym x.is) ∙ ap (max (get_or (grid_roster s) i 0)) (sym y.is) ∙ o.1 ∙ ap (λ k. get_or (grid_roster s) k 0) (sym column);
         }
 
-    pub link_of_cell : link_of (grid_book s) a b ≡ get_or s.cells (cell i j) None
+    pub link_of_cell : link_of (grid_book s) a b ≡ get_or (grid_cells s) (cell i j) None
     link_of_cell =
-        let w = cell_within in
-        let n = s.sized in
-        find_cell (grid_roster s) s.rising s.cells s.placed (cell i j) (min a b) (max a b) (omega arith) pair_cell
+        let w = places_within in
+        let n = cells_length s.rows in
+        let m = s.sized in
+        find_cell _ s.rising _ s.placed _ _ _ (omega arith) pair_cell

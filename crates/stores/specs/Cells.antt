@@ -1,14 +1,14 @@
 -- The cells of a grid store: what each may hold, and the links in them. Assumes nothing.
-use Rattle.std.specs.Prelude.{◌≡◌, ℕ, suc, ◌+◌, ◌*◌, ◌/◌, ◌%◌, ◌<◌, min, max, Bool, true, ◌&&◌, List, [], ◌∷◌, length, take, drop, Some, None, Option, ◌==◌, nat_lt, slice_index}
+use Rattle.std.specs.Prelude.{ℕ, suc, ◌+◌, ◌*◌, ◌/◌, ◌%◌, min, max, Bool, true, ◌&&◌, List, [], ◌∷◌, length, Some, None, Option, ◌==◌, nat_lt, slice_index}
+use Rattle.std.specs.List.{flat_map}
+use Rattle.std.specs.Option.{option_to_list}
 use Rattle.network.specs.declared.types.Link.{Link}
 use Rattle.network.specs.Rosters.{place}
 use Rattle.network.specs.Limits.{in_limits}
 
 -- the links in the cells, in their order
 abbrev pub filled : List (Option Link) → List Link
-filled [] = []
-filled (None ∷ cells) = filled cells
-filled (Some l ∷ cells) = l ∷ filled cells
+filled cells = flat_map option_to_list cells
 
 -- a link that the cell k may hold: that of the ASes at the places k / 24 and k % 24, the lower place first
 abbrev pub fits_cell : List ℕ → ℕ → Link → Bool
@@ -21,15 +21,7 @@ fit roster k [] = true
 fit roster k (None ∷ cells) = fit roster (suc k) cells
 fit roster k (Some l ∷ cells) = fits_cell roster k l && fit roster (suc k) cells
 
--- a row of 24 cells
-abbrev pub row : ℕ → List (Option Link) → List (Option Link)
-row i cells = take 24 (drop (24 * i) cells)
-
--- the number of the links in each row
-abbrev pub Tallied : List ℕ → List (Option Link) → Type 0
-Tallied tallies cells = (i : ℕ) → i < 24 → slice_index tallies i ≡ length (filled (row i cells))
-
--- the cell of two places, named in either order
+-- the cell of two places, named in either order, among those of all rows
 abbrev pub cell_at : Option ℕ → Option ℕ → ℕ
 cell_at None j = 0
 cell_at (Some i) None = 0

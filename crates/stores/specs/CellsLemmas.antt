@@ -1,8 +1,10 @@
 -- The cells of a grid store as a book. Assumes nothing.
-use Rattle.std.specs.Prelude.{◌≡◌, ℕ, zero, suc, ◌+◌, ◌/◌, ◌%◌, ◌<◌, ◌≤◌, true, false, ◌&&◌, List, [], ◌∷◌, ◌++◌, length, take, drop, set, replicate, Some, None, Option, ◌==◌, nat_eq, nat_le, nat_lt, slice_index, slice_index_or, slice_set, refl}
+use Rattle.std.specs.Prelude.{◌≡◌, ℕ, zero, suc, ◌+◌, ◌/◌, ◌%◌, ◌<◌, ◌≤◌, true, false, ◌&&◌, List, [], ◌∷◌, ◌++◌, length, take, drop, set, Some, None, Option, slice_index, slice_index_or, slice_set, refl}
 use Rattle.std.proofs.Common.{sym, ap, subst, ◌∙◌, inl, inr, ⊎_elim, arith}
 use Rattle.std.specs.List.{AllByRecursion}
-use Rattle.std.proofs.lemmas.List.{length-take, set_split, set-get_or, drop_more}
+use Rattle.std.specs.Option.{option_to_list}
+use Rattle.std.proofs.lemmas.List.{set_split, set-get_or}
+use Rattle.std.proofs.lemmas.List.Concat.{flat_map-append}
 use Rattle.std.proofs.ByRecursion.{All-weaker}
 use Rattle.std.proofs.lemmas.Bool.{and_from, and_parts, cases_lt, ltb-true, lt-ltb, leb-true, eqb-true, eq-eqb}
 use Rattle.network.specs.declared.types.Link.{Link}
@@ -14,19 +16,6 @@ use Rattle.network.specs.Sound.{Proper, InOrder}
 use Rattle.network.proofs.Rising.{stands_among, rising as rises}
 use Rattle.network.proofs.Books.{Earlier, earlier_before, earlier_not_before, Apart, joined, apart_earlier, apart_later, added_between, find_past, find_none, find_here, recosted_here, without_here}
 use Rattle.stores.specs.Cells.{filled, fits_cell, fit}
-
-pub filled_append : (xs ys : List (Option Link)) → filled (xs ++ ys) ≡ filled xs ++ filled ys
-filled_append [] ys = refl
-filled_append (None ∷ xs) ys = filled_append xs ys
-filled_append (Some l ∷ xs) ys = ap (λ zs. l ∷ zs) (filled_append xs ys)
-
-pub filled_empty : (n : ℕ) → filled (replicate n None) ≡ []
-filled_empty zero = refl
-filled_empty (suc n) = filled_empty n
-
-pub fit_empty : (roster : List ℕ) (k n : ℕ) → fit roster k (replicate n None) ≡ true
-fit_empty roster k zero = refl
-fit_empty roster k (suc n) = fit_empty roster (suc k) n
 
 -- the pair of the ASes whose cell is k, if they were in any order
 pub record Pair (roster : List ℕ) (k low high : ℕ) : Type 0 where
@@ -43,26 +32,21 @@ pub record Placed (roster : List ℕ) (k : ℕ) (l : Link) : Type 0 where
 
 pub limits_from : (f : Figures) → (in_limits f.delay && in_limits f.width) ≡ true → Limits f
 limits_from f e =
-    let both = and_parts (in_limits f.delay) (in_limits f.width) e in
-    let d = and_parts (nat_le 1 f.delay) (nat_le f.delay 1000000) both.0 in
-    let w = and_parts (nat_le 1 f.width) (nat_le f.width 1000000) both.1 in
-    record {
-      delay_low = leb-true 1 f.delay d.0;
-      delay_high = leb-true f.delay 1000000 d.1;
-      width_low = leb-true 1 f.width w.0;
-      width_high = leb-true f.width 1000000 w.1;
-    }
+    let both = and_parts _ _ e in
+    let d = and_parts _ _ both.0 in
+    let w = and_parts _ _ both.1 in
+    record { delay_low = leb-true _ _ d.0; delay_high = leb-true _ _ d.1; width_low = leb-true _ _ w.0; width_high = leb-true _ _ w.1 }
 
 module _ (roster : List ℕ) where
   pub placed : (k : ℕ) (l : Link) → fits_cell roster k l ≡ true → Placed roster k l
   placed k l e =
-      let a = and_parts (nat_lt (k / 24) (k % 24)) (nat_lt (k % 24) (length roster) && (l.low == slice_index roster (k / 24) && (l.high == slice_index roster (k % 24) && (in_limits l.figures.delay && in_limits l.figures.width)))) e in
-      let b = and_parts (nat_lt (k % 24) (length roster)) (l.low == slice_index roster (k / 24) && (l.high == slice_index roster (k % 24) && (in_limits l.figures.delay && in_limits l.figures.width))) a.1 in
-      let c = and_parts (l.low == slice_index roster (k / 24)) (l.high == slice_index roster (k % 24) && (in_limits l.figures.delay && in_limits l.figures.width)) b.1 in
-      let d = and_parts (l.high == slice_index roster (k % 24)) (in_limits l.figures.delay && in_limits l.figures.width) c.1 in
-      let i : k / 24 < k % 24 = ltb-true (k / 24) (k % 24) a.0 in
-      let j : k % 24 < length roster = ltb-true (k % 24) (length roster) b.0 in
-      let pair : Pair roster k l.low l.high = record { row = omega arith; column = j; low_is = eqb-true l.low (slice_index roster (k / 24)) c.0; high_is = eqb-true l.high (slice_index roster (k % 24)) d.0 } in
+      let a = and_parts _ _ e in
+      let b = and_parts _ _ a.1 in
+      let c = and_parts _ _ b.1 in
+      let d = and_parts _ _ c.1 in
+      let i : k / 24 < k % 24 = ltb-true _ _ a.0 in
+      let j : k % 24 < length roster = ltb-true _ _ b.0 in
+      let pair : Pair roster k l.low l.high = record { row = omega arith; column = j; low_is = eqb-true _ _ c.0; high_is = eqb-true _ _ d.0 } in
       record { ordered = i; pair = pair; limits = limits_from l.figures d.1 }
 
 module _ (roster : List ℕ) (rising : climbs 0 roster ≡ true) where
@@ -86,10 +70,10 @@ module _ (roster : List ℕ) (rising : climbs 0 roster ≡ true) where
 
   fit_rest : (k : ℕ) (v : Option Link) (cells : List (Option Link)) → fit roster k (v ∷ cells) ≡ true → fit roster (suc k) cells ≡ true
   fit_rest k None cells e = e
-  fit_rest k (Some l) cells e = (and_parts (fits_cell roster k l) (fit roster (suc k) cells) e).1
+  fit_rest k (Some l) cells e = (and_parts _ _ e).1
 
   fit_first : (k : ℕ) (l : Link) (cells : List (Option Link)) → fit roster k (Some l ∷ cells) ≡ true → Placed roster k l
-  fit_first k l cells e = placed roster k l (and_parts (fits_cell roster k l) (fit roster (suc k) cells) e).0
+  fit_first k l cells e = placed roster k l (and_parts _ _ e).0
 
   -- the link in a cell
   pub fit_at : (k n m : ℕ) (cells : List (Option Link)) (l : Link) → k + n ≡ m → fit roster k cells ≡ true → slice_index_or cells n None ≡ Some l → Placed roster m l
@@ -107,11 +91,11 @@ module _ (roster : List ℕ) (rising : climbs 0 roster ≡ true) where
   fit_set k zero m (c ∷ cells) None s e h = fit_rest k c cells e
   fit_set k zero m (c ∷ cells) (Some l) s e h =
       let here : m ≡ k = omega arith in
-      and_from (fits_cell roster k l) (fit roster (suc k) cells) (subst (λ j. fits_cell roster j l ≡ true) here (and_parts (fits_cell roster m l) true h).0) (fit_rest k c cells e)
+      and_from _ _ (subst (λ j. fits_cell roster j l ≡ true) here (and_parts _ _ h).0) (fit_rest k c cells e)
   fit_set k (suc n) m (None ∷ cells) v s e h = fit_set (suc k) n m cells v (omega arith) e h
   fit_set k (suc n) m (Some l ∷ cells) v s e h =
-      let parts = and_parts (fits_cell roster k l) (fit roster (suc k) cells) e in
-      and_from (fits_cell roster k l) (fit roster (suc k) (slice_set cells n v)) parts.0 (fit_set (suc k) n m cells v (omega arith) parts.1 h)
+      let parts = and_parts _ _ e in
+      and_from _ _ parts.0 (fit_set (suc k) n m cells v (omega arith) parts.1 h)
 
   pub cells_proper : (k : ℕ) (cells : List (Option Link)) → fit roster k cells ≡ true → AllByRecursion (Proper roster) (filled cells)
   cells_proper k [] e = tt
@@ -178,7 +162,7 @@ module _ (roster : List ℕ) (rising : climbs 0 roster ≡ true) where
     rest_apart = All-weaker (λ l. Earlier low high l.low l.high) (Apart low high) (apart_later low high) (filled rest) rest_later
 
     book_set : (v : Option Link) → filled (slice_set cells n v) ≡ fore ++ filled (v ∷ rest)
-    book_set v = ap filled (set_split cells n v within) ∙ filled_append (take n cells) (v ∷ rest)
+    book_set v = ap filled (set_split cells n v within) ∙ flat_map-append option_to_list (take n cells) (v ∷ rest)
 
     book_at : (v : Option Link) → slice_index_or cells n None ≡ v → filled cells ≡ fore ++ filled (v ∷ rest)
     book_at v e = ap filled (sym (set-get_or cells n None) ∙ ap (set cells n) e) ∙ book_set v
@@ -215,21 +199,14 @@ module _ (roster : List ℕ) (rising : climbs 0 roster ≡ true) where
       book_set cells fitting n low high within pair (Some new) ∙
       sym (ap (λ b. added b new) (book_at cells fitting n low high within pair None e) ∙ added_between fore rest new sooner past)
 
--- the links that are left from the cell i on
-pub filled_drop : (cells : List (Option Link)) (i : ℕ) (v : Option Link) → i < length cells → slice_index_or cells i None ≡ v → filled (drop i cells) ≡ filled (v ∷ drop (i + 1) cells)
-filled_drop cells i v h e = ap filled (drop_more cells i None h ∙ ap (λ c. c ∷ drop (i + 1) cells) e)
-
 -- a link of the pair of the cell k, with figures in their limits, fits it
 pub fits_from : (roster : List ℕ) (k low high : ℕ) (l : Link) → k / 24 < k % 24 → Pair roster k low high → l.low ≡ low → l.high ≡ high → (in_limits l.figures.delay && in_limits l.figures.width) ≡ true → fits_cell roster k l ≡ true
 fits_from roster k low high l o p x y f =
-    let fine = in_limits l.figures.delay && in_limits l.figures.width in
-    let lows = nat_eq l.low (slice_index roster (k / 24)) in
-    let highs = nat_eq l.high (slice_index roster (k % 24)) in
-    and_from (nat_lt (k / 24) (k % 24)) (nat_lt (k % 24) (length roster) && (lows && (highs && fine))) (lt-ltb (k / 24) (k % 24) o)
-    (and_from (nat_lt (k % 24) (length roster)) (lows && (highs && fine)) (lt-ltb (k % 24) (length roster) p.column)
-    (and_from lows (highs && fine) (eq-eqb l.low (slice_index roster (k / 24)) (x ∙ p.low_is))
-    (and_from highs fine (eq-eqb l.high (slice_index roster (k % 24)) (y ∙ p.high_is)) f)))
+    and_from _ _ (lt-ltb _ _ o)
+    (and_from _ _ (lt-ltb _ _ p.column)
+    (and_from _ _ (eq-eqb _ _ (x ∙ p.low_is))
+    (and_from _ _ (eq-eqb _ _ (y ∙ p.high_is)) f)))
 
 -- at most 24 ASes are at most 512
-pub few : (n : ℕ) (ases : List ℕ) → n ≤ 24 → length (take n ases) ≤ 512
-few n ases h = omega (arith, length-take n ases)
+pub few : (ases : List ℕ) → length ases ≤ 24 → length ases ≤ 512
+few ases h = omega arith

@@ -1,6 +1,8 @@
 -- The rows of a row store are a book. Assumes nothing.
-use Rattle.std.proofs.Common.{◌≡◌, ℕ, true, ◌&&◌, ltb, List, [], ◌∷◌, is_some, subst}
+use Rattle.std.proofs.Common.{◌≡◌, ℕ, true, ◌&&◌, ltb, List, [], ◌∷◌, is_some, refl, subst}
 use Rattle.std.specs.List.{AllByRecursion}
+use Rattle.std.specs.Bool.{Decides}
+use Rattle.std.proofs.ByRecursion.{Decides-by_and}
 use Rattle.std.proofs.lemmas.Bool.{and_parts, ltb-true}
 use Rattle.network.specs.declared.types.Link.{Link}
 use Rattle.network.specs.Rosters.{Among, place}
@@ -17,6 +19,10 @@ known_among roster a e =
     let i = some_from (place roster a) e in
     let there = place_stands roster a i.0 i.1 in
     subst (λ x. Among x roster) there.is (stands_among roster i.0 there.within)
+
+-- what `before_all` says of each link
+pub befores : (l : Link) (ls : List Link) → Decides (before_all l ls) (AllByRecursion (λ k. before l k ≡ true) ls)
+befores l = Decides-by_and (before l) (λ k. before l k ≡ true) (before_all l) (λ k. ((λ e. e), (λ e. e))) refl (λ _ _. refl)
 
 module _ (roster : List ℕ) where
   proper : (l : Link) → is_proper roster l ≡ true → Proper roster l
@@ -45,11 +51,6 @@ module _ (roster : List ℕ) where
   book_proper [] e = tt
   book_proper (l ∷ ls) e = let p = parts l ls e in (proper l p.fine, book_proper ls p.rest)
 
-  -- what `before_all` says of each link
-  each_before : (l : Link) (ls : List Link) → before_all l ls ≡ true → AllByRecursion (λ k. before l k ≡ true) ls
-  each_before l [] e = tt
-  each_before l (k ∷ ks) e = let p = and_parts (before l k) (before_all l ks) e in (p.0, each_before l ks p.1)
-
   pub book_in_order : (book : List Link) → is_book roster book ≡ true → InOrder book
   book_in_order [] e = tt
-  book_in_order (l ∷ ls) e = let p = parts l ls e in (each_before l ls p.first, book_in_order ls p.rest)
+  book_in_order (l ∷ ls) e = let p = parts l ls e in ((befores l ls).0 p.first, book_in_order ls p.rest)

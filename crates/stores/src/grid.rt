@@ -1,33 +1,38 @@
 // The grid store: up to 24 ASes and a cell for each pair of them.
-ghost use Rattle.std.specs.Prelude.{◌≡◌, ◌<◌, true, [], ◌∷◌, take, IfOk, Some, slice_set};
+ghost use Rattle.std.specs.Prelude.{◌≡◌, ◌<◌, true, [], ◌∷◌, Some, None, slice_set, slice_index_or};
+ghost use Rattle.std.specs.Result.{result_map_both};
 ghost use Rattle.network.specs.Rosters.{roster_from};
 ghost use Rattle.network.specs.Causes.{first_cause, pair_causes};
 ghost use Rattle.stores.specs.Cells.{fit, cell_at, cell_of};
-ghost use Rattle.stores.specs.Grid.{grid_roster, grid_book, grid_limit};
+ghost use Rattle.stores.specs.Grid.{grid_roster, grid_cells, grid_book, grid_limit, number};
 ghost use Rattle.stores.specs.Refusals.{judged};
 ghost use Rattle.stores.specs.CellsLemmas.{few, cells_proper, cells_in_order};
 
-use crate::entries::{check_figures, entered, relation_named};
+use crate::entries::{check_figures, entered, places_of};
 use crate::rosters::{place_in, roster_of};
+use arrayvec::ArrayVec;
 use network::stores::{EditableStore, Store};
-use network::types::{EditRefusal, Figures, Link};
+use network::types::{EditRefusal, Figures, Link, Relation};
 
 mod cells;
 mod rows;
 
-use cells::CELLS;
+use cells::Cell;
 pub use cells::{GridStore, MOST_ASES};
-use rows::{link_in, put_in};
+use rows::GridRow;
 
 // The most links of a grid store: as many as 24 ASes have pairs.
 pub const MOST_LINKS: usize = 276;
 
 // The cell of two places, named in either order.
-fn cell_index(first: usize, second: usize) -> usize
+fn cell_index(first: usize, second: usize) -> Cell
     requires { (first < 24) × (second < 24) }
-    ensures { (result ≡ cell_at (Some first) (Some second)) × (result < 576) }
+    ensures { number result ≡ cell_at (Some first) (Some second) }
 {
-    MOST_ASES * first.min(second) + first.max(second)
+    Cell {
+        row: first.min(second),
+        place: first.max(second),
+    }
 }
 
 impl GridStore {
@@ -37,43 +42,39 @@ impl GridStore {
         ensures book { grid_book result ≡ [] }
         ensures limit { grid_limit result ≡ 276 }
     {
-        let roster = roster_of(ases, MOST_ASES);
-        let mut numbers = [0; MOST_ASES];
-        for i in 0..roster.len() {
-            numbers[i] = roster[i];
-        }
         GridStore {
-            ases: numbers,
-            count: roster.len(),
-            cells: [None; CELLS],
-            tallies: [0; MOST_ASES],
+            ases: ArrayVec::try_from(roster_of(ases, MOST_ASES)).unwrap_or_default(),
+            rows: [GridRow {
+                cells: [None; MOST_ASES],
+                tally: 0,
+            }; MOST_ASES],
         }
     }
 
     // The cell of two ASes, if both are in the roster and they are not the same.
-    fn cell_of(&self, first: u32, second: u32) -> Result<usize, EditRefusal>
-        ensures answer { result ≡ judged (first_cause (pair_causes (grid_roster self.now) first second [])) (cell_of (grid_roster self.now) first second) }
-        ensures within { IfOk result (λ cell. cell < 576) }
+    fn cell_of(&self, first: u32, second: u32) -> Result<Cell, EditRefusal>
+        ensures { result_map_both number (λ refusal. refusal) result ≡ judged (first_cause (pair_causes (grid_roster self.now) first second [])) (cell_of (grid_roster self.now) first second) }
     {
-        let Some(place) = self.place_of(first) else {
-            return Err(EditRefusal::UnknownFirst);
-        };
-        let Some(other) = self.place_of(second) else {
-            return Err(EditRefusal::UnknownSecond);
-        };
-        if first == second {
-            return Err(EditRefusal::SameAs);
-        }
+        let (place, other) = places_of(self, first, second)?;
         Ok(cell_index(place, other))
     }
 
-    // Writes a cell, and counts the links of its row anew.
-    fn put(&mut self, cell: usize, held: Option<Link>)
-        requires { (cell < 576) × (fit (grid_roster self.old) cell (held ∷ []) ≡ true) }
-        ensures roster { grid_roster self.new ≡ grid_roster self.old }
-        ensures cells { self.new.cells ≡ slice_set self.old.cells cell held }
+    // What a cell holds.
+    fn held(&self, cell: Cell) -> Option<Link>
+        ensures { result ≡ slice_index_or (grid_cells self.now) (number cell) None }
     {
-        put_in(&mut self.cells, &mut self.tallies, cell, held);
+        self.rows[cell.row].cells[cell.place]
+    }
+
+    // Writes a cell.
+    fn put(&mut self, cell: Cell, held: Option<Link>)
+        requires { fit (grid_roster self.old) (number cell) (held ∷ []) ≡ true }
+        ensures roster { grid_roster self.new ≡ grid_roster self.old }
+        ensures cells { grid_cells self.new ≡ slice_set (grid_cells self.old) (number cell) held }
+    {
+        // The rows by their own name: the toolchain has no plan for the call through `self.rows`.
+        let GridStore { rows, .. } = self;
+        rows[cell.row].put(cell.place, held);
     }
 }
 
@@ -83,46 +84,36 @@ impl Store for GridStore {
     ghost book = { grid_book };
 
     ghost sound = { λ s.
-        let roster = take s.count s.ases in
         record {
-          few = few s.count s.ases s.within;
+          few = few s.ases.items s.few;
           rising = s.rising;
-          proper = cells_proper roster s.rising 0 s.cells s.placed;
-          in_order = cells_in_order roster s.rising 0 s.cells s.placed;
+          proper = cells_proper s.ases.items s.rising 0 (grid_cells s) s.placed;
+          in_order = cells_in_order s.ases.items s.rising 0 (grid_cells s) s.placed;
         } };
 
     fn as_count(&self) -> usize {
-        self.count
+        self.ases.len()
     }
 
     fn link_count(&self) -> usize {
-        let mut count = 0;
-        for tally in &self.tallies {
-            count += *tally;
-        }
-        count
+        self.rows.iter().map(|row| row.tally).sum()
     }
 
     fn as_at(&self, spot: usize) -> Option<u32> {
-        if spot < self.count {
-            return Some(self.ases[spot]);
-        }
-        None
+        self.ases.get(spot).copied()
     }
 
     fn place_of(&self, number: u32) -> Option<usize> {
-        place_in(&self.ases[0..self.count], number)
+        place_in(&self.ases, number)
     }
 
     fn link_at(&self, spot: usize) -> Option<Link> {
         let mut left = spot;
-        for row in 0..MOST_ASES {
-            let tally = self.tallies[row];
-            if left < tally {
-                let start = MOST_ASES * row;
-                return link_in(&self.cells[start..start + MOST_ASES], left);
+        for row in &self.rows {
+            if left < row.tally {
+                return row.link_at(left);
             }
-            left -= tally;
+            left -= row.tally;
         }
         None
     }
@@ -130,7 +121,7 @@ impl Store for GridStore {
     fn link_of(&self, first: u32, second: u32) -> Option<Link> {
         let first = self.place_of(first)?;
         let second = self.place_of(second)?;
-        self.cells[cell_index(first, second)]
+        self.held(cell_index(first, second))
     }
 }
 
@@ -149,9 +140,9 @@ impl EditableStore for GridStore {
         figures: Figures,
     ) -> Result<(), EditRefusal> {
         let cell = self.cell_of(first, second)?;
-        let relation = relation_named(relation)?;
+        let relation = Relation::try_from(relation)?;
         check_figures(figures)?;
-        let held = self.cells[cell];
+        let held = self.held(cell);
         if held.is_some() {
             return Err(EditRefusal::AlreadyLinked);
         }
@@ -165,7 +156,7 @@ impl EditableStore for GridStore {
     fn recost(&mut self, first: u32, second: u32, figures: Figures) -> Result<(), EditRefusal> {
         let cell = self.cell_of(first, second)?;
         check_figures(figures)?;
-        let held = self.cells[cell];
+        let held = self.held(cell);
         let Some(link) = held else {
             return Err(EditRefusal::NotLinked);
         };
@@ -175,7 +166,7 @@ impl EditableStore for GridStore {
 
     fn unlink(&mut self, first: u32, second: u32) -> Result<(), EditRefusal> {
         let cell = self.cell_of(first, second)?;
-        let held = self.cells[cell];
+        let held = self.held(cell);
         if held.is_none() {
             return Err(EditRefusal::NotLinked);
         }

@@ -1,6 +1,6 @@
 // Rosters, and places in them.
-ghost use Rattle.std.specs.Prelude.{◌≡◌};
-ghost use Rattle.network.specs.Rosters.{place, roster_from};
+ghost use Rattle.std.specs.Prelude.{◌≡◌, true};
+ghost use Rattle.network.specs.Rosters.{climbs, place, roster_from};
 
 use network::roster::check_roster;
 
@@ -14,14 +14,10 @@ pub(crate) fn roster_of(numbers: &[u32], most: usize) -> &[u32]
     &[]
 }
 
-// The place of an AS.
+// The place of an AS in a roster.
 pub(crate) fn place_in(roster: &[u32], number: u32) -> Option<usize>
+    requires { climbs 0 roster.now ≡ true }
     ensures { result ≡ place roster.now number }
 {
-    for (spot, known) in roster.iter().enumerate() {
-        if *known == number {
-            return Some(spot);
-        }
-    }
-    None
+    roster.binary_search(&number).ok()
 }

@@ -1,22 +1,26 @@
 // The row store: the links in rows of memory handed in, in the order of the book.
-ghost use Rattle.std.specs.Prelude.{◌≡◌, min, max, [], length};
+ghost use Rattle.std.specs.Prelude.{◌≡◌, min, max, [], length, slice_get};
+ghost use Rattle.std.specs.List.Sorted.{IsSearchInRange};
+ghost use Rattle.std.specs.Option.{is_some, option_and_then};
+ghost use Rattle.std.specs.Result.{is_ok, result_ok};
+ghost use Rattle.network.specs.Books.{link_of};
 ghost use Rattle.network.specs.Edits.{Links, Recosts, Unlinks};
 ghost use Rattle.network.specs.Rosters.{roster_from};
-ghost use Rattle.stores.specs.Ranks.{row_of, memory_with};
+ghost use Rattle.stores.specs.Ranks.{row_of};
 ghost use Rattle.stores.specs.RanksLemmas.{book_proper, book_in_order};
-ghost use Rattle.stores.specs.Rows.{row_roster, row_book, row_limit};
+ghost use Rattle.stores.specs.Rows.{row_roster, row_book, row_limit, KeptRows};
 
-use crate::entries::{check_figures, check_pair, entered, relation_named};
+use crate::entries::{check_figures, entered, places_of};
 use crate::rosters::{place_in, roster_of};
 use network::roster::MOST_ASES;
 use network::stores::{EditableStore, Store};
-use network::types::{EditRefusal, Figures, Link};
+use network::types::{EditRefusal, Figures, Link, Relation};
 
 mod memory;
 mod moves;
 
 pub use memory::{MOST_LINKS, RowStore};
-use moves::{insert_row, remove_row, row_in};
+use moves::{insert_row, remove_row};
 
 impl<'a, 'b> RowStore<'a, 'b> {
     // A store without links over a roster; it has no ASes if the numbers are no roster of at most 512.
@@ -36,13 +40,13 @@ impl<'a, 'b> RowStore<'a, 'b> {
 
     // The row of the link of two ASes: Ok where it stands, Err where it would stand.
     fn find_row(&self, first: u32, second: u32) -> Result<usize, usize>
-        ensures { result ≡ row_of (row_book self.now) (min first second) (max first second) }
+        ensures row { result ≡ row_of (row_book self.now) (min first second) (max first second) }
+        ensures within { IsSearchInRange result self.now.used }
+        ensures variant { is_some (link_of (row_book self.now) first second) ≡ is_ok result }
+        ensures held { link_of (row_book self.now) first second ≡ option_and_then (slice_get (row_book self.now)) (result_ok result) }
     {
-        row_in(
-            &self.rows[..self.used],
-            first.min(second),
-            first.max(second),
-        )
+        let pair = (first.min(second), first.max(second));
+        self.rows[..self.used].binary_search_by_key(&pair, |link| (link.low, link.high))
     }
 }
 
@@ -68,10 +72,7 @@ impl<'a, 'b> Store for RowStore<'a, 'b> {
     }
 
     fn as_at(&self, spot: usize) -> Option<u32> {
-        if spot < self.roster.len() {
-            return Some(self.roster[spot]);
-        }
-        None
+        self.roster.get(spot).copied()
     }
 
     fn place_of(&self, number: u32) -> Option<usize> {
@@ -79,21 +80,15 @@ impl<'a, 'b> Store for RowStore<'a, 'b> {
     }
 
     fn link_at(&self, spot: usize) -> Option<Link> {
-        if spot < self.used {
-            return Some(self.rows[spot]);
-        }
-        None
+        self.rows[..self.used].get(spot).copied()
     }
 
     fn link_of(&self, first: u32, second: u32) -> Option<Link> {
-        match self.find_row(first, second) {
-            Ok(row) => Some(self.rows[row]),
-            Err(_) => None,
-        }
+        let row = self.find_row(first, second).ok()?;
+        self.link_at(row)
     }
 }
 
-// After an edit, refused or not, the memory has the book in front, and is behind it as it was.
 impl<'a, 'b> EditableStore for RowStore<'a, 'b> {
     ghost limit = { row_limit };
 
@@ -109,11 +104,10 @@ impl<'a, 'b> EditableStore for RowStore<'a, 'b> {
         figures: Figures,
     ) -> Result<(), EditRefusal>
         ensures edit { Links first second relation figures (row_roster self.old) (row_roster self.new) (row_book self.old) (row_book self.new) (row_limit self.old) (row_limit self.new) result }
-        ensures memory { self.new.rows.now ≡ memory_with (row_book self.new) self.old.rows.now }
-        ensures same { self.new.rows.ghost_name ≡ self.old.rows.ghost_name }
+        ensures kept { KeptRows self.old self.new }
     {
-        check_pair(self, first, second)?;
-        let relation = relation_named(relation)?;
+        places_of(self, first, second)?;
+        let relation = Relation::try_from(relation)?;
         check_figures(figures)?;
         let Err(row) = self.find_row(first, second) else {
             return Err(EditRefusal::AlreadyLinked);
@@ -121,18 +115,17 @@ impl<'a, 'b> EditableStore for RowStore<'a, 'b> {
         if self.used == self.link_limit() {
             return Err(EditRefusal::Full);
         }
-        let RowStore { rows, used, .. } = self;
-        insert_row(rows, *used, row, entered(first, second, relation, figures));
-        *used += 1;
+        let link = entered(first, second, relation, figures);
+        insert_row(self.rows, self.used, row, link);
+        self.used += 1;
         Ok(())
     }
 
     fn recost(&mut self, first: u32, second: u32, figures: Figures) -> Result<(), EditRefusal>
         ensures edit { Recosts first second figures (row_roster self.old) (row_roster self.new) (row_book self.old) (row_book self.new) (row_limit self.old) (row_limit self.new) result }
-        ensures memory { self.new.rows.now ≡ memory_with (row_book self.new) self.old.rows.now }
-        ensures same { self.new.rows.ghost_name ≡ self.old.rows.ghost_name }
+        ensures kept { KeptRows self.old self.new }
     {
-        check_pair(self, first, second)?;
+        places_of(self, first, second)?;
         check_figures(figures)?;
         let Ok(row) = self.find_row(first, second) else {
             return Err(EditRefusal::NotLinked);
@@ -143,16 +136,14 @@ impl<'a, 'b> EditableStore for RowStore<'a, 'b> {
 
     fn unlink(&mut self, first: u32, second: u32) -> Result<(), EditRefusal>
         ensures edit { Unlinks first second (row_roster self.old) (row_roster self.new) (row_book self.old) (row_book self.new) (row_limit self.old) (row_limit self.new) result }
-        ensures memory { self.new.rows.now ≡ memory_with (row_book self.new) self.old.rows.now }
-        ensures same { self.new.rows.ghost_name ≡ self.old.rows.ghost_name }
+        ensures kept { KeptRows self.old self.new }
     {
-        check_pair(self, first, second)?;
+        places_of(self, first, second)?;
         let Ok(row) = self.find_row(first, second) else {
             return Err(EditRefusal::NotLinked);
         };
-        let RowStore { rows, used, .. } = self;
-        remove_row(rows, *used, row);
-        *used -= 1;
+        remove_row(self.rows, self.used, row);
+        self.used -= 1;
         Ok(())
     }
 }

@@ -1,27 +1,32 @@
 // The memory of the grid store.
-ghost use Rattle.std.specs.Prelude.{◌≡◌, ◌≤◌, true, length, take};
+ghost use Rattle.std.specs.Prelude.{◌≡◌, ◌<◌, ◌≤◌, true, length};
+ghost use Rattle.std.specs.List.{flat_map};
+ghost use Rattle.arrayvec.specs.ArrayVec.{array_vec_len};
 ghost use Rattle.network.specs.Rosters.{climbs};
-ghost use Rattle.stores.specs.Cells.{fit, Tallied};
+ghost use Rattle.stores.specs.Cells.{fit};
 
-use network::types::Link;
+use super::rows::GridRow;
+use arrayvec::ArrayVec;
 
 // The most ASes of a grid store.
 pub const MOST_ASES: usize = 24;
 
-// The cells of a grid store.
-pub(super) const CELLS: usize = MOST_ASES * MOST_ASES;
+// Where a cell stands: its row, and its place in the row.
+#[derive(Clone, Copy, Drop)]
+pub(super) struct Cell {
+    pub(super) row: usize,
+    pub(super) place: usize,
+    ghost low: { row < 24 },
+    ghost high: { place < 24 },
+}
 
-// Up to 24 ASes, and a cell for each pair of them: the link of the ASes at places i < j stands in cell 24 i + j.
-// The tallies count the links in each row of 24 cells.
+// Up to 24 ASes, and a cell for each pair of them: the link of the ASes at places i < j stands in the cell j of the row i.
 #[derive(Drop)]
 pub struct GridStore {
-    pub(super) ases: [u32; MOST_ASES],
-    pub(super) count: usize,
-    pub(super) cells: [Option<Link>; CELLS],
-    pub(super) tallies: [usize; MOST_ASES],
-    ghost sized: { length cells ≡ 576 },
-    ghost within: { count ≤ 24 },
-    ghost rising: { climbs 0 (take count ases) ≡ true },
-    ghost placed: { fit (take count ases) 0 cells ≡ true },
-    ghost tallied: { Tallied tallies cells },
+    pub(super) ases: ArrayVec<u32, MOST_ASES>,
+    pub(super) rows: [GridRow; MOST_ASES],
+    ghost few: { array_vec_len ases ≤ 24 },
+    ghost sized: { length rows ≡ 24 },
+    ghost rising: { climbs 0 ases.items ≡ true },
+    ghost placed: { fit ases.items 0 (flat_map (λ r. r.cells) rows) ≡ true },
 }

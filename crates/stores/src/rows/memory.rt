@@ -9,6 +9,7 @@ use network::types::Link;
 pub const MOST_LINKS: usize = 16_384;
 
 // A roster, and the links in the first `used` rows of the memory handed in, in the order of the book.
+// The caller lends the rows, and what stands behind the book in them stays: so a count, and no list that grows.
 #[derive(Drop)]
 pub struct RowStore<'a, 'b> {
     pub(super) roster: &'a [u32],

@@ -1,41 +1,33 @@
-use Rattle.std.proofs.Common.{◌≡◌, ◌+◌, ◌-◌, ◌*◌, ◌<◌, ◌≤◌, length, take, drop, sym, ap, ◌∙◌, arith}
-use Rattle.std.proofs.lemmas.List.{at_drop_all}
-use Rattle.network.specs.Rosters.{at}
+use Rattle.std.specs.Prelude.{slice_get}
+use Rattle.std.proofs.Common.{◌+◌, ◌-◌, ◌<◌, ◌≤◌, length, get_or, drop, sym, ap, ◌∙◌, arith}
 use Rattle.network.proofs.Rosters.{at_front, at_back}
-use Rattle.stores.specs.Cells.{filled, row}
-use Rattle.stores.proofs.Tallies.{row_split}
+use Rattle.stores.specs.Cells.{filled}
+use Rattle.stores.proofs.GridRows.{cells_in, links_from}
 use Rattle.stores.proofs.grid.GridStoreStore.link_at.Goals as goal
 
-pub returns-then-left-tally : goal.returns-then-left-tally
-returns-then-left-tally c =
-    let cells = c.args.self.now.cells in
-    let i = c.loop-row.row in
+pub returns-then-left-row : goal.returns-then-left-row
+returns-then-left-row c =
+    let rows = c.args.self.now.rows in
+    let i = c.loop-row.row-index in
+    let within : i < length rows = omega (arith, c.loop-row-test.true, c.args.self.now.sized) in
     let left = c.loop-row.left in
-    let tally = c.args.self.now.tallied i c.loop-row-test.true in
-    let short : left < length (filled (row i cells)) = omega arith in
-    let wide : (24 * i + 24) - 24 * i ≡ 24 = omega arith in
-    c.link_in.ensures ∙
-    ap (λ n. at (filled (take n (drop (24 * i) cells))) left) wide ∙
-    sym (at_front (filled (row i cells)) (filled (drop (24 * (i + 1)) cells)) left short) ∙
-    sym (ap (λ b. at b left) (row_split cells i)) ∙
+    let row = get_or rows i c.row-item.result in
+    let short : left < length (filled row.cells) = omega (arith, c.if-left-row.true, row.tallied) in
+    c.link_at.ensures ∙
+    sym (at_front (filled row.cells) (filled (cells_in (drop (i + 1) rows))) left short) ∙
+    sym (ap (λ links. slice_get links left) (links_from rows i c.row-item.result within)) ∙
     c.loop-row.invariant
 
 pub loop-row-preserved : goal.loop-row-preserved
 loop-row-preserved c =
-    let cells = c.args.self.now.cells in
-    let i = c.loop-row.row in
+    let rows = c.args.self.now.rows in
+    let i = c.loop-row.row-index in
+    let within : i < length rows = omega (arith, c.loop-row-test.true, c.args.self.now.sized) in
     let left = c.loop-row.left in
-    let rest = filled (drop (24 * (i + 1)) cells) in
-    let tally = c.args.self.now.tallied i c.loop-row-test.true in
-    let long : length (filled (row i cells)) ≤ left = omega arith in
-    ap (λ n. at rest (left - n)) tally ∙
-    sym (at_back (filled (row i cells)) rest left long) ∙
-    sym (ap (λ b. at b left) (row_split cells i)) ∙
+    let row = get_or rows i c.row-item.result in
+    let rest = filled (cells_in (drop (i + 1) rows)) in
+    let long : length (filled row.cells) ≤ left = omega (arith, c.if-left-row.false, row.tallied) in
+    ap (λ n. slice_get rest (left - n)) row.tallied ∙
+    sym (at_back (filled row.cells) rest left long) ∙
+    sym (ap (λ links. slice_get links left) (links_from rows i c.row-item.result within)) ∙
     c.loop-row.invariant
-
-pub returns : goal.returns
-returns c =
-    let cells = c.args.self.now.cells in
-    let i = c.loop-row.row in
-    let past : length cells ≤ 24 * i = omega arith in
-    sym (at_drop_all (λ cs. at (filled cs) c.loop-row.left) cells (24 * i) past) ∙ c.loop-row.invariant

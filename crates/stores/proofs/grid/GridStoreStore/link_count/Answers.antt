@@ -1,30 +1,17 @@
-use Rattle.std.proofs.Common.{◌+◌, ◌*◌, ◌≤◌, length, drop, ap, ◌∙◌, arith}
-use Rattle.std.proofs.lemmas.List.{length-append, at_drop_all}
-use Rattle.stores.specs.Cells.{filled, row}
-use Rattle.stores.proofs.Tallies.{filled_length, row_split}
+use Rattle.std.proofs.Common.{◌≡◌, ◌<◌, ◌^◌, ◌∙◌, rules, arith}
+use Rattle.std.specs.List.{sum_by}
+use Rattle.stores.specs.Grid.{grid_cells}
+use Rattle.stores.proofs.GridRows.{tallies, cells_length, filled_length}
 use Rattle.stores.proofs.grid.GridStoreStore.link_count.Goals as goal
 
-pub overflow_add-count : goal.overflow_add-count
-overflow_add-count c =
+pub sum-requires-clause-fits : goal.sum-requires-clause-fits
+sum-requires-clause-fits c =
     let s = c.args.self.now in
-    let i = c.loop-tally.tally-index in
-    let tally = s.tallied i c.loop-tally-test.true in
-    let split = ap length (row_split s.cells i) ∙ length-append (filled (row i s.cells)) (filled (drop (24 * (i + 1)) s.cells)) in
-    let most = filled_length s.cells in
-    omega arith
-
-pub loop-tally-preserved : goal.loop-tally-preserved
-loop-tally-preserved c =
-    let s = c.args.self.now in
-    let i = c.loop-tally.tally-index in
-    let tally = s.tallied i c.loop-tally-test.true in
-    let split = ap length (row_split s.cells i) ∙ length-append (filled (row i s.cells)) (filled (drop (24 * (i + 1)) s.cells)) in
-    omega (arith, c.loop-tally.invariant)
+    let most : sum_by (λ r. r.tally) s.rows < 2 ^ 64 = omega (arith, tallies s.rows, filled_length (grid_cells s), cells_length s.rows, s.sized) in
+    search (rules, most)
 
 pub returns : goal.returns
 returns c =
     let s = c.args.self.now in
-    let i = c.loop-tally.tally-index in
-    let past : length s.cells ≤ 24 * i = omega arith in
-    let none = at_drop_all (λ cs. length (filled cs)) s.cells (24 * i) past in
-    omega (arith, c.loop-tally.invariant)
+    let is : c.sum.result ≡ sum_by (λ r. r.tally) s.rows = search rules in
+    is ∙ tallies s.rows

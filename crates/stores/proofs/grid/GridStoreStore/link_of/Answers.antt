@@ -1,4 +1,5 @@
 use Rattle.std.proofs.Common.{get_or, None, sym, ap, ◌∙◌, inl, inr}
+use Rattle.stores.specs.Grid.{grid_cells}
 use Rattle.stores.proofs.Pairs.{places_within, link_of_cell, link_of_unknown}
 use Rattle.stores.proofs.grid.GridStoreStore.link_of.Goals as goal
 
@@ -13,11 +14,11 @@ returns-in_err-second c =
 
 pub cell_index-requires : goal.cell_index-requires
 cell_index-requires c =
-    places_within c.args.self.now c.args.first c.args.second c.in_ok-first.first c.in_ok-second.second
-    (sym c.in_ok-first.ensures) (sym c.in_ok-second.ensures)
+    places_within c.args.self.now c.args.first c.args.second c.in_ok-first.first c.in_ok-second.second (sym c.in_ok-first.ensures) (sym c.in_ok-second.ensures)
 
 pub returns : goal.returns
 returns c =
-    ap (λ k. get_or c.args.self.now.cells k None) c.cell_index.ensures.0 ∙
+    c.held.ensures ∙
+    ap (λ n. get_or (grid_cells c.args.self.now) n None) c.cell_index.ensures ∙
     sym (link_of_cell c.args.self.now c.args.first c.args.second c.in_ok-first.first c.in_ok-second.second
     (sym c.in_ok-first.ensures) (sym c.in_ok-second.ensures))
