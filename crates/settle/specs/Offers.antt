@@ -1,27 +1,34 @@
--- What an offer does to an entry of a column and to what waits. Assumes nothing.
-use Rattle.std.specs.Prelude.{◌≡◌, ℕ, ◌<◌, ◌≤◌, Bool, true, ◌≢◌, ◌⊎◌, List, Some, None, Option, slice_index_or, slice_set}
+-- What an offer does to an entry of a column that is being filled, and to what waits. Assumes nothing.
+use Rattle.std.specs.Prelude.{◌≡◌, ℕ, ◌<◌, ◌≤◌, true, ◌≢◌, ◌⊎◌, Some, None, slice_index_or, slice_set}
 use Rattle.network.specs.declared.types.Relation.{Relation}
+use Rattle.measure.specs.declared.Measure.{Ghosts}
 use Rattle.legality.specs.declared.types.Class.{Class}
 use Rattle.legality.specs.Classes.{allowed}
 use Rattle.waiting.specs.Calls.{Sets}
+use Rattle.waiting.specs.Lists.{held, room}
 use Rattle.table.specs.declared.types.Entry.{Entry}
-use Rattle.table.specs.Columns.{entry, blank}
+use Rattle.table.specs.Columns.{blank}
+use Rattle.settle.specs.declared.filling.Filling.{Filling}
 
--- An offer to the entry p of a column may be acted on; s: the start cost, f: what waits.
-pub record Ready {C : Type 0} (less : C → C → Bool) (s : C) (column : List (Entry C)) (f : ℕ → Option C) (room p : ℕ) (offer : C) : Type 0 where
-  pub idle : (slice_index_or column p (blank s)).next ≡ 65535 → f p ≡ None
-  pub free : (slice_index_or column p (blank s)).next ≡ 65535 → 0 < room
-  pub lowers : (slice_index_or column p (blank s)).next ≢ 65535 → less offer (slice_index_or column p (blank s)).cost ≡ true → f p ≡ Some (slice_index_or column p (blank s)).cost
+-- the entry p of the column
+abbrev pub entry_at : {X C : Type 0} {g : Ghosts X C} → Filling X C g → ℕ → Entry C
+entry_at {X} {C} {g} x p = slice_index_or x.column.now p (blank g.measure.start)
 
--- What an offer from the AS at the place `from` makes of the entry p of a column, and of what waits.
-pub data Offered {C : Type 0} (less : C → C → Bool) (s : C) (from : ℕ) (offer : C) (p : ℕ) (column column' : List (Entry C)) (f f' : ℕ → Option C) : Type 0 where
-  puts : (slice_index_or column p (blank s)).next ≡ 65535 → column' ≡ slice_set column p (entry from offer) → Sets f f' p (Some offer) → Offered less s from offer p column column' f f'
-  lowers : (slice_index_or column p (blank s)).next ≢ 65535 → less offer (slice_index_or column p (blank s)).cost ≡ true → column' ≡ slice_set column p (entry from offer) → Sets f f' p (Some offer) → Offered less s from offer p column column' f f'
-  dearer : (slice_index_or column p (blank s)).next ≢ 65535 → less (slice_index_or column p (blank s)).cost offer ≡ true → column' ≡ column → f' ≡ f → Offered less s from offer p column column' f f'
-  turns : (slice_index_or column p (blank s)).next ≢ 65535 → (slice_index_or column p (blank s)).cost ≡ offer → from < (slice_index_or column p (blank s)).next → column' ≡ slice_set column p (entry from offer) → f' ≡ f → Offered less s from offer p column column' f f'
-  stays : (slice_index_or column p (blank s)).next ≢ 65535 → (slice_index_or column p (blank s)).cost ≡ offer → (slice_index_or column p (blank s)).next ≤ from → column' ≡ column → f' ≡ f → Offered less s from offer p column column' f f'
+-- The entry p may be offered a cost.
+pub record Ready {X C : Type 0} {g : Ghosts X C} (x : Filling X C g) (p : ℕ) (cost : C) : Type 0 where
+  pub idle : (entry_at x p).next ≡ 65535 → held x.waiting p ≡ None
+  pub free : (entry_at x p).next ≡ 65535 → 0 < room x.waiting
+  pub lowers : (entry_at x p).next ≢ 65535 → g.measure.less cost (entry_at x p).cost ≡ true → held x.waiting p ≡ Some (entry_at x p).cost
+
+-- What the offer of an entry makes of the entry p, and of what waits; a prime marks what stands afterwards.
+pub data Offered {X C : Type 0} {g : Ghosts X C} (offer : Entry C) (p : ℕ) (x x' : Filling X C g) : Type 0 where
+  puts : (entry_at x p).next ≡ 65535 → x'.column.now ≡ slice_set x.column.now p offer → Sets (held x.waiting) (held x'.waiting) p (Some offer.cost) → Offered offer p x x'
+  lowers : (entry_at x p).next ≢ 65535 → g.measure.less offer.cost (entry_at x p).cost ≡ true → x'.column.now ≡ slice_set x.column.now p offer → Sets (held x.waiting) (held x'.waiting) p (Some offer.cost) → Offered offer p x x'
+  dearer : (entry_at x p).next ≢ 65535 → g.measure.less (entry_at x p).cost offer.cost ≡ true → x'.column.now ≡ x.column.now → held x'.waiting ≡ held x.waiting → Offered offer p x x'
+  turns : (entry_at x p).next ≢ 65535 → (entry_at x p).cost ≡ offer.cost → offer.next < (entry_at x p).next → x'.column.now ≡ slice_set x.column.now p offer → held x'.waiting ≡ held x.waiting → Offered offer p x x'
+  stays : (entry_at x p).next ≢ 65535 → (entry_at x p).cost ≡ offer.cost → (entry_at x p).next ≤ offer.next → x'.column.now ≡ x.column.now → held x'.waiting ≡ held x.waiting → Offered offer p x x'
 
 -- An offer, if a step of the relation leads the class e to e'; else nothing changes.
-abbrev pub Told : {C : Type 0} → (C → C → Bool) → C → Class → Relation → Class → ℕ → C → ℕ → List (Entry C) → List (Entry C) → (ℕ → Option C) → (ℕ → Option C) → Type 0
-Told less s e relation e' from offer p column column' f f' =
-    ((allowed e relation ≡ Some e') × Offered less s from offer p column column' f f') ⊎ ((allowed e relation ≢ Some e') × (column' ≡ column) × (f' ≡ f))
+abbrev pub Told : {X C : Type 0} {g : Ghosts X C} → Class → Relation → Class → Entry C → ℕ → Filling X C g → Filling X C g → Type 0
+Told e relation e' offer p x x' =
+    ((allowed e relation ≡ Some e') × Offered offer p x x') ⊎ ((allowed e relation ≢ Some e') × (x'.column.now ≡ x.column.now) × (held x'.waiting ≡ held x.waiting))

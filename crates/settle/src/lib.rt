@@ -7,18 +7,12 @@ ghost use Rattle.settle.specs.Settled.{Settles};
 
 use measure::Measure;
 use network::stores::Store;
-use table::types::{Entry, RouteRefusal, Table};
-use waiting::types::Slot;
+use table::types::{RouteRefusal, Table};
 
-mod columns;
-mod fill;
-mod links;
-mod pairs;
-mod relax;
-mod turns;
+mod filling;
 pub mod types;
 
-use fill::fill_column;
+use filling::fill::fill_column;
 use types::Work;
 
 // Where the column of the AS at `spot` begins, among n ASes.
@@ -31,36 +25,8 @@ fn column_start(n: usize, spot: usize) -> usize
     2 * n * spot
 }
 
-// A settle over the slices of the two memories.
-fn settle_slices<S: Store, M: Measure>(
-    store: &S,
-    entries: &mut [Entry<M::Cost>],
-    marks: &mut [u8],
-    waiting: &mut [Slot<M::Cost>],
-    numbers: &mut [u32],
-    destination: u32,
-) -> Result<usize, RouteRefusal>
-    ensures { Settles M.measure (S.roster store.now) (S.book store.now) destination (record { entries = entries.entry.now; marks = marks.old; waiting = waiting.old; numbers = numbers.old }) (record { entries = entries.exit.now; marks = marks.new; waiting = waiting.new; numbers = numbers.new }) result }
-{
-    let n = store.as_count();
-    let row = 2 * n;
-    if entries.len() < row * n || marks.len() < n {
-        return Err(RouteRefusal::TableTooSmall);
-    }
-    if waiting.len() < row || numbers.len() < row {
-        return Err(RouteRefusal::WorkTooSmall);
-    }
-    let Some(spot) = store.place_of(destination) else {
-        return Err(RouteRefusal::UnknownAs);
-    };
-    let first = column_start(n, spot);
-    let column = &mut entries[first..first + row];
-    let count = fill_column::<S, M>(store, column, &mut waiting[..row], spot);
-    marks[spot] = 1;
-    Ok(count)
-}
-
-// Fills the column of the AS `destination` with the cheapest legal paths to it, and marks it; answers how many of its entries are not blank.
+// Fills the column of the AS `destination` with the cheapest legal paths to it, and marks it.
+// Answers how many of its entries are not blank.
 pub fn settle<S: Store, M: Measure>(
     store: &S,
     table: &mut Table<'_, '_, M::Cost>,
@@ -70,7 +36,23 @@ pub fn settle<S: Store, M: Measure>(
     ensures settles { Settles M.measure (S.roster store.now) (S.book store.now) destination (memory_of table.old work.old) (memory_of table.new work.new) result }
     ensures lent { Lent table.old table.new work.old work.new }
 {
-    let Table { entries, marks } = table;
-    let Work { waiting, numbers } = work;
-    settle_slices::<S, M>(store, entries, marks, waiting, numbers, destination)
+    if table.is_small(store) {
+        return Err(RouteRefusal::TableTooSmall);
+    }
+    let n = store.as_count();
+    let column_length = 2 * n;
+    if work.waiting.len() < column_length || work.numbers.len() < column_length {
+        return Err(RouteRefusal::WorkTooSmall);
+    }
+    let Some(spot) = store.place_of(destination) else {
+        return Err(RouteRefusal::UnknownAs);
+    };
+    let first = column_start(n, spot);
+    let column = &mut table.entries[first..first + column_length];
+    // Of a part `..column_length` of a field, the check knows no more than the length afterwards.
+    let slots = &mut work.waiting[0..column_length];
+    let count = fill_column::<S, M>(store, column, slots, spot);
+    // A mark is a byte of the caller's memory (a rule).
+    table.marks[spot] = 1;
+    Ok(count)
 }

@@ -1,155 +1,101 @@
--- What a write to the records makes of what waits. Assumes nothing.
-use Rattle.std.proofs.Common.{◌≡◌, ℕ, ◌+◌, ◌<◌, ◌≤◌, eqb, ◌≢◌, ◌⊎◌, List, length, get_or, take, set, Some, None, Option, sym, refl, ap, ◌∙◌, subst, inl, inr, ⊎_elim, arith}
+-- What the search for a place says of a waiting list, and what the calls make of its slots. Assumes nothing.
+use Rattle.std.proofs.Common.{◌≡◌, ℕ, ◌+◌, ◌<◌, ◌≤◌, eqb, ◌≢◌, List, [], ◌∷◌, ◌++◌, length, get_or, take, set, true, false, is_some, Some, None, Option, sym, ap, ◌∙◌, ⊎_elim, arith}
 use Rattle.std.specs.Map.{update}
-use Rattle.std.proofs.lemmas.List.{length-map, map-set, length-set, get_or-set_same, get_or-set_other}
-use Rattle.std.proofs.lemmas.Map.{update_here, update_apart}
-use Rattle.std.proofs.lemmas.Bool.{cases_eq}
+use Rattle.std.specs.List.{position}
+use Rattle.std.proofs.Math.Seq.{take-set-lt}
+use Rattle.std.proofs.lemmas.List.{length-take-le, get_or-take, take_more, take_more_set, take-set-le}
+use Rattle.std.proofs.lemmas.List.Quantifiers.{position-Some}
+use Rattle.std.proofs.lemmas.Bool.{cases_eq, eqb-true}
+use Rattle.std.proofs.lemmas.Bool.Decides.{nat_tests}
+use Rattle.measure.specs.declared.Measure.{Ghosts}
 use Rattle.waiting.specs.declared.types.Slot.{Slot}
-use Rattle.waiting.specs.Slots.{waits, places, Apart}
+use Rattle.waiting.specs.declared.list.Waiting.{Waiting}
+use Rattle.waiting.specs.Slots.{waits, held_in, Apart}
+use Rattle.waiting.specs.Lists.{memory}
 use Rattle.waiting.specs.Calls.{Sets}
-use Rattle.waiting.proofs.Held.{slot, Stands, place_at, same_slot, none_some, stands_waits, waits_stands, waits_is}
+use Rattle.waiting.proofs.Waits.{there, place_at, place_take, apart_set, apart_take, waits_none, waits_at, waits_push, waits_set, absent, found}
 
-abbrev there : {C : Type 0} → List (Slot C) → ℕ → ℕ
-there xs k = get_or (places xs) k 0
+module _ {X C : Type 0} {g : Ghosts X C} (w : Waiting X C g) where
+  abbrev n : ℕ
+  n = w.used
 
-module _ {C : Type 0} where
-  some_same : (a b : C) → ◌≡◌ {A = Option C} (Some a) (Some b) → a ≡ b
-  some_same a b e = cc
+  abbrev xs : List (Slot C)
+  xs = memory w
 
-  module _ (xs : List (Slot C)) (i : ℕ) (s : Slot C) where
-    pub place_set_same : i < length xs → there (set xs i s) i ≡ s.place
-    place_set_same h =
-        ap (λ l. get_or l i 0) (map-set (λ t. t.place) xs i s) ∙ get_or-set_same (places xs) i s.place 0 (let e = length-map xs (λ t. t.place) in omega arith)
+  abbrev pub ys : List (Slot C)
+  ys = take n xs
 
-    pub place_set_other : (k : ℕ) → k ≢ i → there (set xs i s) k ≡ there xs k
-    place_set_other k ne =
-        ap (λ l. get_or l k 0) (map-set (λ t. t.place) xs i s) ∙ get_or-set_other (places xs) i k s.place 0 ne
+  pub short : length ys ≡ n
+  short = length-take-le n xs w.fits
 
-  place_of : (xs : List (Slot C)) (k : ℕ) (q : ℕ) (c : C) → k < length xs → ((d : Slot C) → get_or xs k d ≡ slot q c) → there xs k ≡ q
-  place_of xs k q c h at = place_at xs k (slot q c) h ∙ ap (λ s. s.place) (at (slot q c))
+  pub apart : Apart (length ys) ys
+  apart = apart_take n xs w.fits w.apart
 
-  -- The record s goes to i, and m records count then: no other of the n that counted has its place.
-  module _ (n m i : ℕ) (xs : List (Slot C)) (s : Slot C) (fits : n ≤ length xs) (room : m ≤ length xs) (in' : i < m)
-      (older : (k : ℕ) → k < m → k ≢ i → k < n) (newer : (k : ℕ) → k < n → k < m)
-      (other : (k : ℕ) → k < n → k ≢ i → there xs k ≡ s.place → ⊥) (same : i < n → there xs i ≡ s.place) (a : Apart n xs) where
-    room' : m ≤ length (set xs i s)
-    room' = let e = length-set xs i s in omega arith
+  -- r is what the search for the place q answers
+  module _ (q : ℕ) (r : Option ℕ) (is : r ≡ position (λ s. eqb s.place q) ys) where
+    pub waiting : true ≡ is_some r → is_some (waits ys q) ≡ true
+    waiting e = sym (e ∙ ap is_some is ∙ found ys q)
 
-    pub write_apart : Apart m (set xs i s)
-    write_apart j k (hj, hk, e) =
-        let lt : i < length xs = omega arith in
-        let here = place_set_same xs i s lt in
+    pub idle : false ≡ is_some r → waits ys q ≡ None
+    idle e = let f = e ∙ ap is_some is ∙ found ys q in grind arith
+
+  -- it finds the slot at i
+  module _ (q i : ℕ) (is : Some i ≡ position (λ s. eqb s.place q) ys) (d : Slot C) where
+    abbrev at : (i < length ys) × (eqb (get_or ys i d).place q ≡ true)
+    at = let h = position-Some (λ s. eqb s.place q) ys i d (sym is) in (h.0, h.1)
+
+    pub below : i < n
+    below = omega (arith, at.0, short)
+
+    pub its_place : (get_or xs i d).place ≡ q
+    its_place = ap (λ t. t.place) (sym (get_or-take n xs i d below)) ∙ eqb-true _ _ at.1
+
+    pub its_cost : waits ys q ≡ Some (get_or xs i d).cost
+    its_cost = grind (arith, waits_at ys apart i d at.0, its_place, get_or-take n xs i d below)
+
+  -- s waits too, behind the others
+  module _ (s : Slot C) (lt : n < length xs) (free : waits ys s.place ≡ None) where
+    pub put_apart : Apart (n + 1) (set xs n s)
+    put_apart = apart_set (n + 1) n xs s lt (λ j k hj hk nj nk e. w.apart j k (omega arith, omega arith, e)) (λ k h ne z. let lt : k < n = omega arith in absent ys s.place free k (omega (arith, short)) (place_take n xs k lt ∙ z))
+
+    pub put_sets : Sets (waits ys) (held_in (n + 1) (set xs n s)) s.place (Some s.cost)
+    put_sets q = ap (λ l. waits l q) (take_more_set xs n s lt) ∙ waits_push ys s q free
+
+  -- s stands in the place of the slot at i
+  module _ (i : ℕ) (s : Slot C) (lt : i < n) (same : there xs i ≡ s.place) where
+    pub lower_apart : Apart n (set xs i s)
+    lower_apart = apart_set n i xs s (omega (arith, w.fits)) (λ j k hj hk _ _ e. w.apart j k (hj, hk, e)) (λ k h ne z. ne (w.apart k i (h, lt, z ∙ sym same)))
+
+    pub lower_sets : Sets (waits ys) (held_in n (set xs i s)) s.place (Some s.cost)
+    lower_sets q =
+        let e = short in
+        let here : there ys i ≡ s.place = place_take n xs i lt ∙ same in
+        grind (arith, nat_tests, take-set-lt n xs i s lt, waits_set ys apart i s q (omega arith) (λ k h ne z. ne (apart k i (h, omega arith, z ∙ sym here))), here)
+
+  -- the slot at i goes, and the last one, l, comes in its place
+  module _ (m i : ℕ) (l : Slot C) (one : n ≡ m + 1) (lt : i < n) (last : l ≡ get_or xs m l) where
+    last_place : there xs m ≡ l.place
+    last_place = place_at xs m l (omega (arith, w.fits)) ∙ ap (λ t. t.place) (sym last)
+
+    only_last : (k : ℕ) → k < m → there xs k ≢ l.place
+    only_last k h z = let e : k ≡ m = w.apart k m (omega arith, omega arith, z ∙ sym last_place) in omega arith
+
+    pub take_apart : Apart m (set xs i l)
+    take_apart = apart_set m i xs l (omega (arith, w.fits)) (λ j k hj hk _ _ e. w.apart j k (omega arith, omega arith, e)) (λ k h _. only_last k h)
+
+    pub take_sets : Sets (waits ys) (held_in m (set xs i l)) (there xs i) None
+    take_sets q =
+        let zs = take m xs in
+        let f : m ≤ length xs = omega (arith, w.fits) in
+        let e = length-take-le m xs f in
+        let b : Apart (length zs) zs = apart_take m xs f (λ j k h. w.apart j k (omega (arith, h.0), omega (arith, h.1), h.2)) in
+        let only : (k : ℕ) → k < length zs → there zs k ≢ l.place = λ k h z. only_last k (omega arith) (sym (place_take m xs k (omega arith)) ∙ z) in
+        let none : waits zs l.place ≡ None = waits_none zs l.place only in
+        let before : ys ≡ zs ++ l ∷ [] = ap (λ k. take k xs) one ∙ take_more xs m l (omega (arith, w.fits)) ∙ ap (λ t. zs ++ t ∷ []) (sym last) in
+        let had : waits ys q ≡ update eqb (waits zs) l.place (Some l.cost) q = ap (λ l. waits l q) before ∙ waits_push zs l q none in
         ⊎_elim
-        (λ (ej : j ≡ i). ⊎_elim
-        (λ (ek : k ≡ i). ej ∙ sym ek)
-        (λ (nk : k ≢ i). absurd (other k (older k hk nk) nk (sym (place_set_other xs i s k nk) ∙ sym e ∙ ap (there (set xs i s)) ej ∙ here)))
-        (cases_eq k i))
-        (λ (nj : j ≢ i). ⊎_elim
-        (λ (ek : k ≡ i). absurd (other j (older j hj nj) nj (sym (place_set_other xs i s j nj) ∙ e ∙ ap (there (set xs i s)) ek ∙ here)))
-        (λ (nk : k ≢ i). a j k (older j hj nj, older k hk nk, sym (place_set_other xs i s j nj) ∙ e ∙ place_set_other xs i s k nk))
-        (cases_eq k i))
-        (cases_eq j i)
-
-    abbrev was : ℕ → Option C
-    was = waits (take n xs)
-
-    write_in : (q : ℕ) (c : C) → Stands m (set xs i s) (slot q c) → update eqb was s.place (Some s.cost) q ≡ Some c
-    write_in q c (k, lt, at) =
-        let li : i < length xs = omega arith in
-        ⊎_elim
-        (λ (e : k ≡ i).
-        let put : s ≡ slot q c = sym (get_or-set_same xs i s s li) ∙ ap (λ j. get_or (set xs i s) j s) (sym e) ∙ at s in
-        ap (update eqb was s.place (Some s.cost)) (sym (ap (λ t. t.place) put)) ∙ update_here was s.place (Some s.cost) ∙ ap (λ t. Some t.cost) put)
-        (λ (ne : k ≢ i).
-        let old : k < n = older k lt ne in
-        let at' : (d : Slot C) → get_or xs k d ≡ slot q c = λ d. sym (get_or-set_other xs i k s d ne) ∙ at d in
-        let p : there xs k ≡ q = place_of xs k q c (omega arith) at' in
-        update_apart was s.place (Some s.cost) q (λ z. other k old ne (p ∙ z)) ∙ stands_waits n xs fits a (slot q c) (k, old, at'))
-        (cases_eq k i)
-
-    write_out : (q : ℕ) (c : C) → update eqb was s.place (Some s.cost) q ≡ Some c → Stands m (set xs i s) (slot q c)
-    write_out q c e =
-        let li : i < length xs = omega arith in
-        ⊎_elim
-        (λ (z : q ≡ s.place).
-        let f : ◌≡◌ {A = Option C} (Some s.cost) (Some c) = sym (update_here was s.place (Some s.cost)) ∙ ap (update eqb was s.place (Some s.cost)) (sym z) ∙ e in
-        (i, in', λ d. get_or-set_same xs i s d li ∙ same_slot s q c (sym z) (some_same _ _ f)))
-        (λ (ne : q ≢ s.place).
-        let h : Stands n xs (slot q c) = waits_stands n xs fits q c (sym (update_apart was s.place (Some s.cost) q ne) ∙ e) in
-        let p : there xs h.0 ≡ q = place_of xs h.0 q c (omega (arith, h.1)) h.2 in
-        let ni : h.0 ≢ i = λ z. ne (sym p ∙ ap (there xs) z ∙ same (subst (λ j. j < n) z h.1)) in
-        (h.0, newer h.0 h.1, λ d. get_or-set_other xs i h.0 s d ni ∙ h.2 d))
-        (cases_eq q s.place)
-
-    pub write_sets : Sets was (waits (take m (set xs i s))) s.place (Some s.cost)
-    write_sets = waits_is m (set xs i s) room' write_apart (update eqb was s.place (Some s.cost)) write_in write_out
-
-  -- The record at i goes, and the last of the n, s, comes in its place.
-  module _ (n m i : ℕ) (xs : List (Slot C)) (s : Slot C) (fits : n ≤ length xs) (in' : i < n) (less : m + 1 ≡ n)
-      (last : (d : Slot C) → get_or xs m d ≡ s) (a : Apart n xs) where
-    last_place : there xs m ≡ s.place
-    last_place = place_of xs m s.place s.cost (omega arith) last
-
-    from : (k : ℕ) → k < m → (j : ℕ) × (j < n) × (there (set xs i s) k ≡ there xs j) × (((k ≡ i) × (j ≡ m)) ⊎ ((k ≢ i) × (j ≡ k)))
-    from k h =
-        ⊎_elim
-        (λ (e : k ≡ i). (m, omega arith, ap (there (set xs i s)) e ∙ place_set_same xs i s (omega arith) ∙ sym last_place, inl (e, refl)))
-        (λ (ne : k ≢ i). (k, omega arith, place_set_other xs i s k ne, inr (ne, refl)))
-        (cases_eq k i)
-
-    pub drop_apart : Apart m (set xs i s)
-    drop_apart j k (hj, hk, e) =
-        let f = from j hj in
-        let g = from k hk in
-        let z : f.0 ≡ g.0 = a f.0 g.0 (f.1, g.1, sym f.2 ∙ e ∙ g.2) in
-        ⊎_elim
-        (λ (x : (j ≡ i) × (f.0 ≡ m)). ⊎_elim
-        (λ (y : (k ≡ i) × (g.0 ≡ m)). x.0 ∙ sym y.0)
-        (λ (y : (k ≢ i) × (g.0 ≡ k)). let w : m ≡ k = sym x.1 ∙ z ∙ y.1 in absurd (omega arith))
-        g.3)
-        (λ (x : (j ≢ i) × (f.0 ≡ j)). ⊎_elim
-        (λ (y : (k ≡ i) × (g.0 ≡ m)). let w : j ≡ m = sym x.1 ∙ z ∙ y.1 in absurd (omega arith))
-        (λ (y : (k ≢ i) × (g.0 ≡ k)). sym x.1 ∙ z ∙ y.1)
-        g.3)
-        f.3
-
-    abbrev held : ℕ → Option C
-    held = waits (take n xs)
-
-    apart_from : (k q : ℕ) → k < n → k ≢ i → there xs k ≡ q → q ≢ there xs i
-    apart_from k q h ne p z = ne (a k i (h, in', p ∙ z))
-
-    drop_in : (q : ℕ) (c : C) → Stands m (set xs i s) (slot q c) → update eqb held (there xs i) None q ≡ Some c
-    drop_in q c (k, lt, at) =
-        ⊎_elim
-        (λ (e : k ≡ i).
-        let put : s ≡ slot q c = sym (get_or-set_same xs i s s (omega arith)) ∙ ap (λ j. get_or (set xs i s) j s) (sym e) ∙ at s in
-        let at' : (d : Slot C) → get_or xs m d ≡ slot q c = λ d. last d ∙ put in
-        let p : there xs m ≡ q = place_of xs m q c (omega arith) at' in
-        update_apart held (there xs i) None q (apart_from m q (omega arith) (λ z. omega arith) p) ∙ stands_waits n xs fits a (slot q c) (m, omega arith, at'))
-        (λ (ne : k ≢ i).
-        let at' : (d : Slot C) → get_or xs k d ≡ slot q c = λ d. sym (get_or-set_other xs i k s d ne) ∙ at d in
-        let p : there xs k ≡ q = place_of xs k q c (omega arith) at' in
-        update_apart held (there xs i) None q (apart_from k q (omega arith) ne p) ∙ stands_waits n xs fits a (slot q c) (k, omega arith, at'))
-        (cases_eq k i)
-
-    drop_out : (q : ℕ) (c : C) → update eqb held (there xs i) None q ≡ Some c → Stands m (set xs i s) (slot q c)
-    drop_out q c e =
-        ⊎_elim
-        (λ (z : q ≡ there xs i).
-        absurd (none_some c (sym (update_here held (there xs i) None) ∙ ap (update eqb held (there xs i) None) (sym z) ∙ e)))
-        (λ (ne : q ≢ there xs i).
-        let h : Stands n xs (slot q c) = waits_stands n xs fits q c (sym (update_apart held (there xs i) None q ne) ∙ e) in
-        let p : there xs h.0 ≡ q = place_of xs h.0 q c (omega (arith, h.1)) h.2 in
-        let ni : h.0 ≢ i = λ z. ne (sym p ∙ ap (there xs) z) in
-        ⊎_elim
-        (λ (w : h.0 ≡ m).
-        let is : s ≡ slot q c = sym (last s) ∙ ap (λ j. get_or xs j s) (sym w) ∙ h.2 s in
-        let im : i ≢ m = λ v. ni (w ∙ sym v) in
-        (i, omega arith, λ d. get_or-set_same xs i s d (omega arith) ∙ is))
-        (λ (nw : h.0 ≢ m). let lt : h.0 < m = omega (arith, h.1) in (h.0, lt, λ d. get_or-set_other xs i h.0 s d ni ∙ h.2 d))
-        (cases_eq h.0 m))
-        (cases_eq q (there xs i))
-
-    pub drop_sets : Sets held (waits (take m (set xs i s))) (there xs i) None
-    drop_sets = waits_is m (set xs i s) (let e = length-set xs i s in omega arith) drop_apart (update eqb held (there xs i) None) drop_in drop_out
+        (λ (z : i ≡ m). grind (arith, nat_tests, take-set-le m xs i l (omega arith), last_place))
+        (λ (z : i ≢ m).
+        let lt : i < m = omega arith in
+        grind (arith, nat_tests, take-set-lt m xs i l lt, place_take m xs i lt, only i (omega arith), waits_set zs b i l q (omega arith) (λ k h _. only k h)))
+        (cases_eq i m)

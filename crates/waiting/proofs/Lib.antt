@@ -1,5 +1,5 @@
 pub mod Answers
-mod Held
+mod Waits
 mod Changes
 pub mod Rooms
 mod Sooner

@@ -1,4 +1,5 @@
-// The waiting list: the first `used` slots of the memory that is lent wait, in no order.
+// The waiting list: the first `used` slots of the memory that is lent wait, in no order. The memory is the caller's (a rule), so what is
+// used of it is counted beside it.
 ghost use Rattle.std.specs.Prelude.{◌≤◌, length};
 ghost use Rattle.waiting.specs.Slots.{Apart};
 

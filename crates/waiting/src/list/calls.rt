@@ -1,10 +1,10 @@
-// The calls on a waiting list.
+// The calls on a waiting list. That the memory is the one lent stands in each contract: it relates before and after, as no field can.
 ghost use Rattle.std.specs.Prelude.{◌≡◌, ℕ, length, None};
 ghost use Rattle.waiting.specs.Calls.{Put, Lower, Take};
 ghost use Rattle.waiting.specs.Lists.{held, room, memory, lent};
 
 use crate::list::Waiting;
-use crate::list::slots::{lower_in, put_into, take_from};
+use crate::list::slots::{find, first};
 use crate::types::{Slot, WaitingRefusal};
 use measure::Measure;
 
@@ -24,8 +24,16 @@ impl<'a, M: Measure> Waiting<'a, M> {
         ensures after { Put place cost (held self.old) (held self.new) (room self.old) (room self.new) (memory self.old) (memory self.new) result }
         ensures lent { lent self.new ≡ lent self.old }
     {
-        let Waiting { slots, used } = self;
-        put_into(slots, used, place, cost)
+        let slots = &mut *self.slots;
+        if find(&slots[..self.used], place).is_some() {
+            return Err(WaitingRefusal::AlreadyWaiting);
+        }
+        if self.used == slots.len() {
+            return Err(WaitingRefusal::Full);
+        }
+        slots[self.used] = Slot { place, cost };
+        self.used += 1;
+        Ok(())
     }
 
     // Has `place`, which waits, wait at the lower `cost`.
@@ -33,8 +41,15 @@ impl<'a, M: Measure> Waiting<'a, M> {
         ensures after { Lower M.measure.less place cost (held self.old) (held self.new) (room self.old) (room self.new) (memory self.old) (memory self.new) result }
         ensures lent { lent self.new ≡ lent self.old }
     {
-        let Waiting { slots, used } = self;
-        lower_in::<M>(slots, *used, place, cost)
+        let slots = &mut *self.slots;
+        let Some(i) = find(&slots[..self.used], place) else {
+            return Err(WaitingRefusal::NotLower);
+        };
+        if !M::less(cost, slots[i].cost) {
+            return Err(WaitingRefusal::NotLower);
+        }
+        slots[i].cost = cost;
+        Ok(())
     }
 
     // Takes out the place of the least cost, the smallest one among equals.
@@ -42,7 +57,14 @@ impl<'a, M: Measure> Waiting<'a, M> {
         ensures after { Take M.measure.less (held self.old) (held self.new) (room self.old) (room self.new) (memory self.old) (memory self.new) result }
         ensures lent { lent self.new ≡ lent self.old }
     {
-        let Waiting { slots, used } = self;
-        take_from::<M>(slots, used)
+        if self.used == 0 {
+            return None;
+        }
+        let slots = &mut *self.slots;
+        let i = first::<M>(&slots[..self.used]);
+        let least = slots[i];
+        self.used -= 1;
+        slots[i] = slots[self.used];
+        Some(least)
     }
 }
