@@ -7,7 +7,7 @@ use Rattle.legality.specs.declared.types.Class.TheVariants.{Home}
 use Rattle.legality.specs.Networks.{Network}
 use Rattle.table.specs.declared.types.Entry.{Entry}
 use Rattle.routes.specs.Raw.{then, judged, next_of, walk, path_from, fitting, owed, send_from, sending}
-use Rattle.routes.proofs.Judged.{ok_inj, err_ok}
+use Rattle.routes.proofs.Known.{ok_inj, err_ok}
 use Rattle.routes.proofs.Walked.{there, stuck, goes, ends_before}
 
 then_ok : {A B R : Type 0} (r : Result A R) (f : A → Result B R) (b : B) → then r f ≡ Ok b → (a : A) × (r ≡ Ok a) × (f a ≡ Ok b)

@@ -1,6 +1,5 @@
-pub mod Judged
+pub mod Known
 pub mod Walked
-pub mod Sent
 pub mod Right
 pub mod Answered
 pub mod Few

@@ -1,13 +1,14 @@
 -- On a column with the shortest paths, the walk of the raw entries is the walk of the table. Assumes nothing.
-use Rattle.std.proofs.Common.{◌≡◌, ℕ, zero, suc, ◌<◌, ◌≤◌, Bool, true, false, cond, not, ◌&&◌, eqb, ◌≢◌, ◌⊎◌, List, [], ◌∷◌, length, get_or, Some, None, Ok, Option, sym, ap, ◌∙◌, subst, inl, inr, arith}
-use Rattle.std.proofs.lemmas.Bool.{cases_eq, eq-eqb, ne_eqb, cond-true, cond-false}
+use Rattle.std.proofs.Common.{◌≡◌, ℕ, zero, suc, ◌<◌, ◌≤◌, true, false, ◌≢◌, ◌⊎◌, List, [], ◌∷◌, length, get_or, Some, Ok, sym, ap, ◌∙◌, inl, inr, arith}
+use Rattle.std.proofs.lemmas.Option.{slice_get-get_or, same_Some}
+use Rattle.std.proofs.lemmas.Bool.{cases_eq}
 use Rattle.network.specs.declared.types.Relation.{Relation}
 use Rattle.network.specs.declared.types.Figures.{Figures}
 use Rattle.network.specs.declared.types.Link.{Link}
-use Rattle.network.specs.Rosters.{Among, place, at}
+use Rattle.network.specs.Rosters.{Among, place}
 use Rattle.network.specs.Sound as store
-use Rattle.network.proofs.Somes.{some_inj, same_pair}
-use Rattle.network.proofs.Rising.{Rising, rising, at_known, place_stands, place_at, rising_inj, stands_among}
+use Rattle.network.proofs.Somes.{same_pair}
+use Rattle.network.proofs.Rising.{Rising, rising, place_stands, place_at, rising_inj, stands_among}
 use Rattle.measure.specs.Measures.{Measure, Laws}
 use Rattle.legality.specs.declared.types.Class.{Class}
 use Rattle.legality.specs.Classes.{allowed}
@@ -21,12 +22,9 @@ use Rattle.table.specs.declared.types.Entry.{Entry}
 use Rattle.table.specs.Columns.{blank, read, at_place}
 use Rattle.table.specs.Memory.{index, decoded, Column}
 use Rattle.table.proofs.Rows.{read_some, read_filled, row_below}
-use Rattle.routes.specs.Raw.{with_some, before, pays, entry_at, owed, over_link, next_of, walk}
+use Rattle.routes.specs.Raw.{before, pays, entry_at, owed, next_of, walk}
 use Rattle.routes.specs.Routes.{Walks}
 use Rattle.routes.proofs.Walked.{there, goes}
-
-four : (a b x y : Bool) → a ≡ true → b ≡ true → x ≡ false → y ≡ false → (a && (b && (not x && not y))) ≡ true
-four a b x y pa pb px py = ap (λ z. z && (b && (not x && not y))) pa ∙ ap (λ z. z && (not x && not y)) pb ∙ ap (λ z. not z && not y) px ∙ ap not py
 
 module _ {C : Type 0} (m : Measure C) (laws : Laws m) (roster : List ℕ) (book : List Link) (store_sound : store.Sound roster book)
     (entries : List (Entry C)) (d j : ℕ) (here : place roster d ≡ Some j) (column : Column m roster book entries d j) where
@@ -69,17 +67,17 @@ module _ {C : Type 0} (m : Measure C) (laws : Laws m) (roster : List ℕ) (book 
       go : (i ≡ j) ⊎ (i ≢ j) → owed m net entries j i e ≡ c
       go (inl y) =
           let arrived : t (name i) e ≡ Some (d, m.start) = ap (λ a. t a e) (ap name y ∙ to_is) ∙ column.shortest.arrived e in
-          cond-true (eqb i j) m.start (entry i e).cost (eq-eqb i j y) ∙ (same_pair arrived q).1
-      go (inr n) = cond-false (eqb i j) m.start (entry i e).cost (ne_eqb i j n) ∙ (read_some roster (entry i e) b c (sym (table_at i e h) ∙ q)).2
+          let start = (same_pair arrived q).1 in
+          grind (arith, y, start)
+      go (inr n) = let cost = (read_some roster (entry i e) b c (sym (table_at i e h) ∙ q)).2 in grind (arith, n, cost)
 
   -- the step that the table tells is right by the raw entries
   next_is : (i : ℕ) (e : Class) → i < length roster → i ≢ j → (c : C) (w : Relation) (f : Figures) (e' : Class) → (entry i e).next < length roster →
       net.step (name i) (name (entry i e).next) ≡ Some (w, f) → allowed e w ≡ Some e' → Chosen m net t (name i) e (name (entry i e).next) (entry i e).cost → next_of m net entries j i e ≡ Some ((entry i e).next, e')
   next_is i e h away c w f e' low linked ok best =
-      ap (λ o. with_some (with_some o (λ a. with_some (at roster k) (net.step a))) (over_link m net entries j e v k)) (at_known roster i 0 h) ∙
-      ap (λ o. with_some (with_some o (net.step (name i))) (over_link m net entries j e v k)) (at_known roster k 0 low) ∙
-      ap (λ o. with_some o (over_link m net entries j e v k)) linked ∙ ap (λ o. with_some o (λ g. cond {A = Option (ℕ × Class)} (pays m v (owed m net entries j k g) f) (Some (k, g)) None)) ok ∙
-      cond-true {A = Option (ℕ × Class)} (pays m v (owed m net entries j k e') f) (Some (k, e')) None paid
+      let here = slice_get-get_or roster i 0 h in
+      let there = slice_get-get_or roster k 0 low in
+      grind (arith, here, there, linked, ok, paid)
     where
       k : ℕ
       k = (entry i e).next
@@ -91,13 +89,12 @@ module _ {C : Type 0} (m : Measure C) (laws : Laws m) (roster : List ℕ) (book 
       paid =
           let o = best.offered in
           let same = same_pair o.linked linked in
-          let class : o.class ≡ e' = some_inj (sym o.permitted ∙ ap (allowed e) same.0 ∙ ok) in
+          let class : o.class ≡ e' = same_Some _ _ (sym o.permitted ∙ ap (allowed e) same.0 ∙ ok) in
           let base : owed m net entries j k e' ≡ o.base = owed_is k e' o.next o.base low (ap (t (name k)) (sym class) ∙ o.entry) in
           let worth : v ≡ m.extend (owed m net entries j k e') f = o.worth ∙ ap (m.extend o.base) same.1 ∙ ap (λ z. m.extend z f) (sym base) in
-          let whole : C = m.extend (owed m net entries j k e') f in
-          let equal : m.less v whole ≡ false = subst (λ z. m.less v z ≡ false) worth (laws.irreflexive v) in
-          let equal' : m.less whole v ≡ false = subst (λ z. m.less z v ≡ false) worth (laws.irreflexive v) in
-          four (m.within v) (m.within (owed m net entries j k e')) (m.less v whole) (m.less whole v) best.within (ap m.within base ∙ o.within) equal equal'
+          let equal : m.less v v ≡ false = laws.irreflexive v in
+          let within : m.within (owed m net entries j k e') ≡ true = ap m.within base ∙ o.within in
+          grind (arith, best.within, within, worth, equal)
 
   -- the walk of the entries is the list that follows the table
   pub walk_is : (p : List ℕ) (k i : ℕ) (e : Class) → i < length roster → First (get_or roster i 0) p → Follows (net_of roster book) (decoded m roster j entries) d e p → length p ≤ k →

@@ -1,4 +1,5 @@
 pub mod Raw
 pub mod Walks
+pub mod Columns
 pub mod Routes
 pub mod Theorems

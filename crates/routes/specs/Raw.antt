@@ -1,8 +1,8 @@
 -- What a question about a route answers over any table memory, right or spoiled. Places count from 0. Assumes nothing.
-use Rattle.std.specs.Prelude.{ℕ, zero, suc, ◌-◌, ◌*◌, Bool, cond, not, ◌&&◌, List, [], ◌∷◌, ◌++◌, length, drop, Some, None, Ok, Err, Option, Result, ◌==◌, nat_lt, slice_index, slice_index_or}
+use Rattle.std.specs.Prelude.{ℕ, zero, suc, ◌-◌, ◌*◌, Bool, cond, not, ◌&&◌, List, [], ◌∷◌, ◌++◌, length, drop, Some, None, Ok, Err, Option, Result, ◌==◌, nat_lt, slice_index, slice_index_or, slice_get}
 use Rattle.network.specs.declared.types.Figures.{Figures}
 use Rattle.network.specs.declared.types.Relation.{Relation}
-use Rattle.network.specs.Rosters.{at, place}
+use Rattle.network.specs.Rosters.{place}
 use Rattle.measure.specs.Measures.{Measure}
 use Rattle.legality.specs.declared.types.Class.{Class}
 use Rattle.legality.specs.declared.types.Class.TheVariants.{Home}
@@ -60,7 +60,7 @@ module _ {C : Type 0} (m : Measure C) (net : Network) (entries : List (Entry C))
 
   -- what the entry x says of the next AS
   abbrev pub hop_by : Entry C → Result (Option ℕ) RouteRefusal
-  hop_by x = cond (x.next == 65535) (Err NoPath) (unless_false (at net.roster x.next) (λ a. Ok (Some a)))
+  hop_by x = cond (x.next == 65535) (Err NoPath) (unless_false (slice_get net.roster x.next) (λ a. Ok (Some a)))
 
   -- nothing at the destination, whose entries are not read
   abbrev pub hop_from : Class → ℕ × ℕ → Result (Option ℕ) RouteRefusal
@@ -80,7 +80,7 @@ module _ {C : Type 0} (m : Measure C) (net : Network) (entries : List (Entry C))
 
   -- the step from the AS at i to the AS at k, if both are places and linked
   abbrev pub between : ℕ → ℕ → Option (Relation × Figures)
-  between i k = with_some (at net.roster i) (λ a. with_some (at net.roster k) (net.step a))
+  between i k = with_some (slice_get net.roster i) (λ a. with_some (slice_get net.roster k) (net.step a))
 
   -- the step from the AS at i by its entry, if all is right
   abbrev pub step_by : ℕ → ℕ → Class → Entry C → Option (ℕ × Class)
