@@ -1,5 +1,5 @@
 -- What the opening of a board and its edits answer, and what they leave. Assumes nothing.
-use Rattle.std.specs.Prelude.{◌≡◌, ℕ, min, max, Bool, List, [], ◌∷◌, ◌++◌, length, drop, replicate, Result}
+use Rattle.std.specs.Prelude.{◌≡◌, ℕ, min, max, Bool, true, false, List, [], ◌∷◌, ◌++◌, length, drop, replicate, Ok, Err, Result}
 use Rattle.network.specs.declared.types.Link.{Link}
 use Rattle.network.specs.declared.types.Figures.{Figures}
 use Rattle.network.specs.declared.types.EditRefusal.{EditRefusal}
@@ -24,6 +24,28 @@ cleared n marks = replicate n 0 ++ drop n marks
 pub record Opens {C : Type 0} (n : ℕ) (entries entries' : List (Entry C)) (marks marks' : List ℕ) (r : Result (Unit {0}) BoardRefusal) : Type 0 where
   pub answer : r ≡ answered (first_cause ((TableTooSmall, small n entries marks) ∷ []))
   pub marks_then : marks' ≡ unless (first_cause ((TableTooSmall, small n entries marks) ∷ [])) marks (cleared n marks)
+  pub entries_then : entries' ≡ entries
+
+-- what the board answers where the store answered r
+abbrev pub passed : Result (Unit {0}) EditRefusal → Result (Unit {0}) BoardRefusal
+passed (Ok x) = Ok x
+passed (Err x) = Err (Edit x)
+
+-- the marks of n ASes where the store answered r: an accepted edit leaves no destination settled
+abbrev pub marks_at : ℕ → List ℕ → Result (Unit {0}) EditRefusal → List ℕ
+marks_at n marks (Ok x) = cleared n marks
+marks_at n marks (Err x) = marks
+
+-- The store answered r to an edit that was passed on to it.
+pub record Passed (n : ℕ) (Gives : Result (Unit {0}) EditRefusal → Type 0) (marks marks' : List ℕ) (r : Result (Unit {0}) BoardRefusal) (given : Result (Unit {0}) EditRefusal) : Type 0 where
+  pub gives : Gives given
+  pub answer : r ≡ passed given
+  pub marks_then : marks' ≡ marks_at n marks given
+
+-- An edit of a store of n ASes, passed on where the table memory is large enough. `Gives r s` says that the edit may answer r and leave the store s.
+pub record Passes {C S : Type 0} (n : ℕ) (s s' : S) (Gives : Result (Unit {0}) EditRefusal → S → Type 0) (entries entries' : List (Entry C)) (marks marks' : List ℕ) (r : Result (Unit {0}) BoardRefusal) : Type 0 where
+  pub refused : small n entries marks ≡ true → (r ≡ Err TableTooSmall) × (s' ≡ s) × (marks' ≡ marks)
+  pub passed_on : small n entries marks ≡ false → (given : Result (Unit {0}) EditRefusal) × Passed n (λ x. Gives x s') marks marks' r given
   pub entries_then : entries' ≡ entries
 
 -- An edit with these causes of refusal, that makes the book `next` and leaves no destination settled.

@@ -1,10 +1,11 @@
 -- The number, the column and the layer of a fault. Layer 1 is the text, 2 the board, 3 the store. Assumes nothing.
-use Rattle.std.specs.Prelude.{ℕ}
+use Rattle.std.specs.Prelude.{ℕ, Option, Some, None}
 use Rattle.network.specs.declared.types.EditRefusal.{EditRefusal}
 use Rattle.network.specs.declared.types.EditRefusal.TheVariants.{UnknownFirst, UnknownSecond, SameAs, BadRelation, BadDelay, BadWidth, AlreadyLinked, NotLinked, Full}
 use Rattle.board.specs.declared.types.BoardRefusal.{BoardRefusal}
 use Rattle.board.specs.declared.types.BoardRefusal.TheVariants.{TableTooSmall, Edit}
 use Rattle.board.specs.Numbers.{board_number, board_layer}
+use Rattle.link_text.specs.declared.types.Field.{Field}
 use Rattle.link_text.specs.declared.types.Field.TheVariants.{First, Second, Relation, Delay, Width}
 use Rattle.link_text.specs.declared.types.TextFault.{TextFault}
 use Rattle.link_text.specs.declared.types.TextFault.TheVariants.{BrokenLine, BadField, BadNumber}
@@ -23,32 +24,40 @@ cause_number (TooManyAses f) = 55
 cause_number (Text t) = text_number t
 cause_number (Board b) = board_number b
 
--- the first column of the field in question, from 1, or 0 where it is no field's
-abbrev pub text_column : TextFault → ℕ
-text_column BrokenLine = 0
-text_column (BadField f) = column_of f
-text_column (BadNumber f) = column_of f
+-- the field in question
+abbrev pub text_field : TextFault → Option Field
+text_field BrokenLine = None
+text_field (BadField f) = Some f
+text_field (BadNumber f) = Some f
 
-abbrev pub edit_column : EditRefusal → ℕ
-edit_column UnknownFirst = column_of First
-edit_column UnknownSecond = column_of Second
-edit_column SameAs = 0
-edit_column BadRelation = column_of Relation
-edit_column BadDelay = column_of Delay
-edit_column BadWidth = column_of Width
-edit_column AlreadyLinked = 0
-edit_column NotLinked = 0
-edit_column Full = 0
+abbrev pub edit_field : EditRefusal → Option Field
+edit_field UnknownFirst = Some First
+edit_field UnknownSecond = Some Second
+edit_field SameAs = None
+edit_field BadRelation = Some Relation
+edit_field BadDelay = Some Delay
+edit_field BadWidth = Some Width
+edit_field AlreadyLinked = None
+edit_field NotLinked = None
+edit_field Full = None
 
-abbrev pub board_column : BoardRefusal → ℕ
-board_column TableTooSmall = 0
-board_column (Edit x) = edit_column x
+abbrev pub board_field : BoardRefusal → Option Field
+board_field TableTooSmall = None
+board_field (Edit x) = edit_field x
+
+abbrev pub cause_field : Cause → Option Field
+cause_field TooLong = None
+cause_field (TooManyAses f) = Some f
+cause_field (Text t) = text_field t
+cause_field (Board b) = board_field b
+
+-- its first column, from 1, or 0 where the fault is no field's
+abbrev pub field_column : Option Field → ℕ
+field_column (Some f) = column_of f
+field_column None = 0
 
 abbrev pub cause_column : Cause → ℕ
-cause_column TooLong = 0
-cause_column (TooManyAses f) = column_of f
-cause_column (Text t) = text_column t
-cause_column (Board b) = board_column b
+cause_column c = field_column (cause_field c)
 
 abbrev pub cause_layer : Cause → ℕ
 cause_layer TooLong = 1

@@ -1,48 +1,23 @@
 // The number, the column and the layer of a fault.
 ghost use Rattle.std.specs.Prelude.{◌≡◌};
-ghost use Rattle.network.specs.Numbers.{edit_number};
-ghost use Rattle.board.specs.Numbers.{edit_layer};
-ghost use Rattle.link_list.specs.Faults.{edit_column, cause_number, cause_column, cause_layer};
+ghost use Rattle.link_list.specs.Faults.{edit_field, cause_number, cause_field, cause_column, cause_layer};
 
 use crate::types::{Cause, Fault};
 use board::types::BoardRefusal;
 use link_text::types::{Field, TextFault};
 use network::types::EditRefusal;
 
-fn edit_number(refusal: EditRefusal) -> usize
-    ensures { result ≡ edit_number refusal }
+// The field that a refusal of an edit is about.
+fn edit_field(refusal: EditRefusal) -> Option<Field>
+    ensures { result ≡ edit_field refusal }
 {
     match refusal {
-        EditRefusal::UnknownFirst | EditRefusal::UnknownSecond => 11,
-        EditRefusal::SameAs => 12,
-        EditRefusal::BadRelation => 13,
-        EditRefusal::BadDelay => 14,
-        EditRefusal::BadWidth => 15,
-        EditRefusal::AlreadyLinked => 16,
-        EditRefusal::NotLinked => 17,
-        EditRefusal::Full => 18,
-    }
-}
-
-fn edit_layer(refusal: EditRefusal) -> usize
-    ensures { result ≡ edit_layer refusal }
-{
-    match refusal {
-        EditRefusal::AlreadyLinked | EditRefusal::NotLinked | EditRefusal::Full => 3,
-        _ => 2,
-    }
-}
-
-fn edit_column(refusal: EditRefusal) -> usize
-    ensures { result ≡ edit_column refusal }
-{
-    match refusal {
-        EditRefusal::UnknownFirst => Field::First.column(),
-        EditRefusal::UnknownSecond => Field::Second.column(),
-        EditRefusal::BadRelation => Field::Relation.column(),
-        EditRefusal::BadDelay => Field::Delay.column(),
-        EditRefusal::BadWidth => Field::Width.column(),
-        _ => 0,
+        EditRefusal::UnknownFirst => Some(Field::First),
+        EditRefusal::UnknownSecond => Some(Field::Second),
+        EditRefusal::BadRelation => Some(Field::Relation),
+        EditRefusal::BadDelay => Some(Field::Delay),
+        EditRefusal::BadWidth => Some(Field::Width),
+        _ => None,
     }
 }
 
@@ -56,31 +31,41 @@ impl Fault {
             Cause::Text(TextFault::BrokenLine) => 51,
             Cause::Text(TextFault::BadField(_)) => 52,
             Cause::Text(TextFault::BadNumber(_)) => 53,
-            Cause::Board(BoardRefusal::TableTooSmall) => 31,
-            Cause::Board(BoardRefusal::Edit(refusal)) => edit_number(refusal),
+            Cause::Board(refusal) => refusal.number() as usize,
         }
     }
 
-    // The first column of the field in question, counted from 1; 0 where the fault is no field's.
+    // The field in question.
+    fn field(self) -> Option<Field>
+        ensures { result ≡ cause_field self.cause }
+    {
+        match self.cause {
+            Cause::TooManyAses(field) => Some(field),
+            Cause::Text(TextFault::BadField(field) | TextFault::BadNumber(field)) => Some(field),
+            Cause::Board(BoardRefusal::Edit(refusal)) => edit_field(refusal),
+            _ => None,
+        }
+    }
+
+    // The first column of the field in question, counted from 1. Here alone no field becomes 0, which the fault line prints.
     pub fn column(self) -> usize
         ensures { result ≡ cause_column self.cause }
     {
-        match self.cause {
-            Cause::TooManyAses(field) => field.column(),
-            Cause::Text(TextFault::BadField(field)) => field.column(),
-            Cause::Text(TextFault::BadNumber(field)) => field.column(),
-            Cause::Board(BoardRefusal::Edit(refusal)) => edit_column(refusal),
-            _ => 0,
-        }
+        self.field().map_or(0, |field| field.column())
     }
 
     // 1 where the text is at fault, 2 where the board refused, 3 where the store did.
+    // It is the number that the fault line prints, said in this one place.
     pub fn layer(self) -> usize
         ensures { result ≡ cause_layer self.cause }
     {
         match self.cause {
-            Cause::Board(BoardRefusal::TableTooSmall) => 2,
-            Cause::Board(BoardRefusal::Edit(refusal)) => edit_layer(refusal),
+            Cause::Board(
+                BoardRefusal::Edit(
+                    EditRefusal::AlreadyLinked | EditRefusal::NotLinked | EditRefusal::Full,
+                ),
+            ) => 3,
+            Cause::Board(_) => 2,
             _ => 1,
         }
     }

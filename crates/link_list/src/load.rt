@@ -1,6 +1,7 @@
 // A list is entered into a board, line by line.
 ghost use Rattle.std.specs.Prelude.{◌≡◌};
 ghost use Rattle.link_text.specs.Left.{left};
+ghost use Rattle.table.specs.Memory.{SameMemory};
 ghost use Rattle.link_list.specs.Loads.{Enters, Loads};
 
 use crate::types::{Cause, Fault};
@@ -16,7 +17,7 @@ fn enter_line<S: EditableStore, C: Copy>(
     store: &mut S,
     table: &mut Table<'_, '_, C>,
 ) -> Result<(), Cause>
-    ensures named { (table.new.entries.ghost_name ≡ table.old.entries.ghost_name) × (table.new.marks.ghost_name ≡ table.old.marks.ghost_name) }
+    ensures same { SameMemory table.old table.new }
     ensures text { reader.new.text.now ≡ reader.old.text.now }
     ensures roster { S.Store.roster store.new ≡ S.Store.roster store.old }
     ensures limit { S.limit store.new ≡ S.limit store.old }
@@ -39,13 +40,14 @@ fn enter_line<S: EditableStore, C: Copy>(
     Ok(())
 }
 
-// Enters a list by a link call for each line, and answers how many it entered; what earlier lines changed stays when a later one is refused.
+// Enters a list by a link call for each line, and answers how many it entered.
+// What earlier lines changed stays when a later one is refused.
 pub fn load<S: EditableStore, C: Copy>(
     store: &mut S,
     table: &mut Table<'_, '_, C>,
     text: &[u8],
 ) -> Result<usize, Fault>
-    ensures named { (table.new.entries.ghost_name ≡ table.old.entries.ghost_name) × (table.new.marks.ghost_name ≡ table.old.marks.ghost_name) }
+    ensures same { SameMemory table.old table.new }
     ensures roster { S.Store.roster store.new ≡ S.Store.roster store.old }
     ensures limit { S.limit store.new ≡ S.limit store.old }
     ensures entries { table.new.entries.now ≡ table.old.entries.now }
@@ -53,13 +55,12 @@ pub fn load<S: EditableStore, C: Copy>(
 {
     let mut reader = Reader::new(text);
     let mut entered = 0;
+    // By a rule of the project the reader is a struct with `&mut self` methods, so the loop asks it when to stop.
     while !reader.at_end() {
-        if let Err(cause) = enter_line(&mut reader, store, table) {
-            return Err(Fault {
-                cause,
-                line: entered + 1,
-            });
-        }
+        enter_line(&mut reader, store, table).map_err(|cause| Fault {
+            cause,
+            line: entered + 1,
+        })?;
         entered += 1;
     }
     Ok(entered)

@@ -21,6 +21,7 @@ pub struct Fault {
     pub line: usize,
 }
 
+// By hand, here and below: a clause needs to know the variant, which a derived `From` does not tell.
 impl From<TextFault> for Cause {
     ghost from_gives = { λ x r. r ≡ TextT x };
 

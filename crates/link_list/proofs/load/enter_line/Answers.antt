@@ -10,7 +10,7 @@ returns-in_err-line g c =
     let p = err_from_is_err_and c.from_residual.result c.from_residual.ensures.1 in
     let e = c.in_err-line.ensures in
     record {
-      named = (refl, refl);
+      same = record { entries = refl; marks = refl };
       text = e.moved.0;
       roster = refl;
       limit = refl;
@@ -29,7 +29,7 @@ returns-in_err-link g c =
     let after = c.link.new.table in
     let done = call_refused c.in_ok-line.line (left c.args.reader.now) (left c.line.new.self) (sym read.answer) (g.S.Store.roster was) (g.S.Store.roster then) (g.S.Store.book was) (g.S.Store.book then) (g.S.EditableStore.limit was) (g.S.EditableStore.limit then) table.entries.now after.entries.now table.marks.now after.marks.now c.in_err-link.field-0.0 e.links in
     record {
-      named = e.named;
+      same = e.same;
       text = read.moved.0;
       roster = e.links.roster_then;
       limit = e.links.limit_then;
@@ -46,7 +46,7 @@ returns g c =
     let table = c.args.table.now in
     let after = c.link.new.table in
     record {
-      named = e.named;
+      same = e.same;
       text = read.moved.0;
       roster = e.links.roster_then;
       limit = e.links.limit_then;

@@ -1,5 +1,6 @@
 use Rattle.std.proofs.Common.{◌≡◌, ℕ, ◌+◌, ◌*◌, ◌≤◌, List, length, Result}
 use Rattle.network.specs.declared.types.Link.{Link}
+use Rattle.table.specs.Memory.{SameMemory}
 use Rattle.link_text.specs.Left.{left}
 use Rattle.link_list.specs.declared.types.Fault.{Fault}
 use Rattle.link_list.specs.Loads.{Loads}
@@ -8,8 +9,7 @@ use Rattle.link_list.proofs.load.load.Given as goal
 -- what a load from here on comes to, the whole load does
 abbrev pub invariant-loop-reader : goal.invariant-loop-reader
 invariant-loop-reader g l =
-    (l.table.entries.ghost_name ≡ l.initial.table.entries.ghost_name) ×
-    (l.table.marks.ghost_name ≡ l.initial.table.marks.ghost_name) ×
+    SameMemory l.initial.table l.table ×
     (g.S.Store.roster l.store ≡ g.S.Store.roster l.initial.store) ×
     (g.S.EditableStore.limit l.store ≡ g.S.EditableStore.limit l.initial.store) ×
     (l.table.entries.now ≡ l.initial.table.entries.now) ×
