@@ -1,7 +1,11 @@
 // A file of cases for a program: each is a heading, `@ LENGTH NAME`, then LENGTH bytes and a line feed.
 #![tactic(auto)]
 
-ghost use Rattle.std.specs.Prelude.{◌≡◌, ◌<◌, ◌≤◌, length, MatchOption};
+ghost use Rattle.std.specs.Prelude.{◌≡◌, ◌+◌, ◌-◌, ◌<◌, [], length, drop, MatchOption};
+ghost use Rattle.std.specs.Iterator.{at_most};
+
+use std::io;
+use std::io::{Read, Write};
 
 // One case of the file.
 #[derive(Drop)]
@@ -10,60 +14,81 @@ pub struct Case<'a> {
     pub text: &'a [u8],
 }
 
-// The file from `position` on is still to be read.
-#[derive(Drop)]
-pub struct CaseFile<'a> {
-    pub bytes: &'a [u8],
-    pub position: usize,
+impl Case<'_> {
+    // Prints the heading of what a program says of the case: its name.
+    pub fn print_heading(&self, rt: &HostRuntime) -> io::Result<()> {
+        let mut out = rt.stdout();
+        out.write_all(b"@ ")?;
+        out.write_all(self.name)?;
+        out.write_all(b"\n")
+    }
 }
 
-// The spot of the first such byte, or the length of the bytes.
-fn spot_of(bytes: &[u8], sought: u8) -> usize
-    ensures { result ≤ length bytes.now }
+// A file by what is still to be read of it.
+#[derive(Drop)]
+pub struct CaseFile<'a> {
+    rest: &'a [u8],
+}
+
+// What stands before the first such byte, and what stands behind it; all and nothing where there is none.
+fn parted(bytes: &[u8], sought: u8) -> (&[u8], &[u8])
+    ensures { result.1.now ≡ drop (length result.0.now + 1) bytes.now }
 {
-    for (spot, byte) in bytes.iter().enumerate() {
-        if *byte == sought {
-            return spot;
-        }
+    match bytes.iter().position(|byte| *byte == sought) {
+        Some(spot) => (&bytes[..spot], &bytes[spot + 1..]),
+        None => (bytes, &[]),
     }
-    bytes.len()
 }
 
 // The number that the digits in front say.
 fn number_in(bytes: &[u8]) -> usize {
-    let mut number = 0usize;
-    for byte in bytes {
-        if *byte < b'0' || *byte > b'9' {
-            return number;
-        }
-        number = number
-            .saturating_mul(10)
-            .saturating_add((*byte - b'0') as usize);
-    }
-    number
+    bytes
+        .iter()
+        .map_while(|byte| (*byte as char).to_digit(10))
+        .fold(
+            0usize,
+            |number, digit| number.saturating_mul(10).saturating_add(digit as usize),
+        )
 }
 
 impl<'a> CaseFile<'a> {
-    // The next case, if there is one; the file is then read further.
-    pub fn next_case(&mut self) -> Option<Case<'a>>
-        ensures bytes { self.new.bytes.now ≡ self.old.bytes.now }
-        ensures further { MatchOption result (length self.old.bytes.now ≤ self.old.position) (λ _. (self.old.position < self.new.position) × (self.new.position ≤ length self.old.bytes.now)) }
+    // A file whose first case is still to be read.
+    pub fn new(bytes: &'a [u8]) -> CaseFile<'a>
+        ensures { result.rest.now ≡ bytes.now }
     {
-        let bytes = self.bytes;
-        let at = self.position;
-        if at >= bytes.len() {
+        CaseFile { rest: bytes }
+    }
+}
+
+// The cases in order: with each the file is read further.
+impl<'a> Iterator for CaseFile<'a> {
+    type Item = Case<'a>;
+
+    ghost next_gives = { λ old case new. MatchOption case ((old.rest.now ≡ []) × (new.rest.now ≡ [])) (λ _. (length new.rest.now < length old.rest.now) × (new.rest.now ≡ drop (length old.rest.now - length new.rest.now) old.rest.now)) };
+
+    ghost remaining = { λ file. at_most (length file.rest.now) };
+
+    fn next(&mut self) -> Option<Case<'a>> {
+        if self.rest.is_empty() {
             return None;
         }
-        let rest = &bytes[at..];
-        let heading = spot_of(rest, b'\n');
-        let start = (heading + 1).min(rest.len());
-        let words = &rest[2.min(heading)..heading];
-        let count = number_in(words).min(rest.len() - start);
-        let name = (spot_of(words, b' ') + 1).min(words.len());
-        self.position = at + (start + count + 1).min(rest.len());
-        Some(Case {
-            name: &words[name..],
-            text: &rest[start..start + count],
-        })
+        let (heading, body) = parted(self.rest, b'\n');
+        let words = heading.get(2..).unwrap_or(&[]);
+        let (digits, name) = parted(words, b' ');
+        let (text, rest) = body.split_at(number_in(digits).min(body.len()));
+        self.rest = &rest[rest.len().min(1)..];
+        Some(Case { name, text })
     }
+}
+
+// Runs `run` on each case of standard input in order, until it answers an error.
+pub fn run_cases<F: FnMut(Case<'_>) -> anyhow::Result<()>>(
+    rt: &HostRuntime,
+    run: F,
+) -> anyhow::Result<()>
+    requires { F.IsAlwaysCallable run }
+{
+    let mut bytes = Vec::new(rt.alloc());
+    rt.stdin().read_to_end(&mut bytes)?;
+    CaseFile::new(&bytes).try_for_each(run)
 }

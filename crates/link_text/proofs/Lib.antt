@@ -1,4 +1,3 @@
 mod ByBytes
-mod Drops
 mod Stages
 pub mod Lines

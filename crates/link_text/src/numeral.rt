@@ -5,7 +5,7 @@ ghost use Rattle.link_text.specs.Steps.{sized, next, kept_answer};
 
 use crate::types::{Field, TextFault};
 
-// What the bytes so far say.
+// What the bytes so far say: four states side by side, which an Option in a Result would hide.
 #[derive(Clone, Copy)]
 enum Numeral {
     // Nothing but spaces.
@@ -19,28 +19,24 @@ enum Numeral {
 }
 
 // The number `number` with the digit `digit` behind it.
-fn extended(number: u32, digit: u8) -> Numeral
-    requires { digit < 10 }
+fn extended(number: u32, digit: u32) -> Numeral
     ensures { result ≡ sized (10 * number + digit) }
 {
-    let longer = 10 * u64::from(number) + u64::from(digit);
-    if longer <= u64::from(u32::MAX) {
-        Numeral::Number(longer as u32)
-    } else {
-        Numeral::TooGreat
-    }
+    number
+        .checked_mul(10)
+        .and_then(|tens| tens.checked_add(digit))
+        .map_or(Numeral::TooGreat, Numeral::Number)
 }
 
 // One byte more.
 fn step(numeral: Numeral, byte: u8) -> Numeral
     ensures { result ≡ next numeral byte }
 {
-    let is_digit = byte >= b'0' && byte <= b'9';
-    match numeral {
-        Numeral::Blank if byte == b' ' => Numeral::Blank,
-        Numeral::Blank if is_digit => Numeral::Number(u32::from(byte - b'0')),
-        Numeral::Number(number) if is_digit && number != 0 => extended(number, byte - b'0'),
-        Numeral::TooGreat if is_digit => Numeral::TooGreat,
+    match (numeral, char::from(byte).to_digit(10)) {
+        (Numeral::Blank, Some(digit)) => Numeral::Number(digit),
+        (Numeral::Blank, None) if byte == b' ' => Numeral::Blank,
+        (Numeral::Number(number), Some(digit)) if number != 0 => extended(number, digit),
+        (Numeral::TooGreat, Some(_)) => Numeral::TooGreat,
         _ => Numeral::Broken,
     }
 }
@@ -57,7 +53,7 @@ fn judged(numeral: Numeral, field: Field) -> Result<u32, TextFault>
     }
 }
 
-// The number that the bytes of a field say.
+// The number that the bytes of a field say; a rule of the project has them read one by one.
 pub(crate) fn number_in(bytes: &[u8], field: Field) -> Result<u32, TextFault>
     ensures { result ≡ field_answer field bytes.now }
 {

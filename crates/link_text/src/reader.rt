@@ -3,7 +3,7 @@ ghost use Rattle.std.specs.Prelude.{◌≤◌, length};
 
 mod lines;
 
-// The text from `position` on is still to be read.
+// The text from `position` on is still to be read; a rule of the project makes the reader these two.
 #[derive(Drop)]
 pub struct Reader<'a> {
     text: &'a [u8],

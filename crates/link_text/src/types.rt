@@ -41,10 +41,7 @@ impl Field {
     pub(crate) fn names_as(self) -> bool
         ensures { result ≡ names_as self }
     {
-        match self {
-            Field::First | Field::Second => true,
-            Field::Relation | Field::Delay | Field::Width => false,
-        }
+        matches!(self, Field::First | Field::Second)
     }
 }
 
@@ -61,6 +58,7 @@ pub enum TextFault {
 pub struct Line {
     pub first: u32,
     pub second: u32,
+    // A number as it stands in the text: another one than a relation's is the board's to refuse (a rule).
     pub relation: u32,
     pub delay: u32,
     pub width: u32,

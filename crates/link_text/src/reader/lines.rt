@@ -23,11 +23,18 @@ impl<'a> Reader<'a> {
         Reader { text, position: 0 }
     }
 
+    // What is still to be read.
+    fn rest(&self) -> &'a [u8]
+        ensures { result.now ≡ left self.now }
+    {
+        &self.text[self.position..]
+    }
+
     // Whether all of the text is read.
     pub fn at_end(&self) -> bool
         ensures { result ≡ none (left self.now) }
     {
-        self.position == self.text.len()
+        self.rest().is_empty()
     }
 
     // Takes the next `count` bytes, or those that are left where they are fewer.
@@ -35,22 +42,19 @@ impl<'a> Reader<'a> {
         ensures bytes { result.now ≡ take count (left self.old) }
         ensures moved { Moved count self.old self.new }
     {
-        let text = self.text;
-        let start = self.position;
-        let end = start + count.min(text.len() - start);
-        self.position = end;
-        &text[start..end]
+        let rest = self.rest();
+        let taken = rest.get(..count).unwrap_or(rest);
+        self.position += taken.len();
+        taken
     }
 
     // Whether a line stands here; asked before its first field. Nothing is read.
     pub fn begin_line(&self) -> Result<(), TextFault>
         ensures { result ≡ start_answer (left self.now) }
     {
-        let rest = &self.text[self.position..];
-        if rest.len() > COLUMNS && rest[COLUMNS] == LINE_FEED {
-            Ok(())
-        } else {
-            Err(TextFault::BrokenLine)
+        match self.rest().get(COLUMNS) {
+            Some(&LINE_FEED) => Ok(()),
+            _ => Err(TextFault::BrokenLine),
         }
     }
 
