@@ -1,5 +1,6 @@
 pub mod AllSettled
 pub mod Climbed
+pub mod Columns
 pub mod Fresh
 pub mod Noted
 pub mod Rowed

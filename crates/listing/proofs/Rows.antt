@@ -1,7 +1,7 @@
 -- Rows for one pair more. Assumes nothing.
-use Rattle.std.proofs.Common.{◌≡◌, ℕ, ◌+◌, ◌<◌, Bool, true, false, cond, eqb, List, [], ◌∷◌, ◌++◌, length, get_or, take, sym, refl, ap, ◌∙◌, subst, append_assoc}
+use Rattle.std.proofs.Common.{arith, ◌≡◌, ℕ, ◌+◌, ◌<◌, List, [], ◌∷◌, ◌++◌, length, get_or, take, sym, refl, ap, ◌∙◌, subst, append_assoc}
 use Rattle.std.proofs.lemmas.List.{take_more, append-nil}
-use Rattle.std.proofs.lemmas.Bool.{eq-eqb, ne_eqb}
+use Rattle.std.proofs.lemmas.Bool.Decides.{nat_tests}
 use Rattle.legality.specs.Networks.{Network}
 use Rattle.listing.specs.declared.types.Row.{Row}
 use Rattle.listing.specs.Rows.{RowRight, RowsRight, pairs_of, pairs_from}
@@ -14,11 +14,7 @@ rows_append net (p ∷ ps) qs (r ∷ rs) ss a b = (a.0, rows_append net ps qs rs
 
 of_push : (s : ℕ) (xs : List ℕ) (d : ℕ) → pairs_of s (xs ++ d ∷ []) ≡ pairs_of s xs ++ pairs_of s (d ∷ [])
 of_push s [] d = refl
-of_push s (x ∷ xs) d = go (eqb x s) (of_push s xs d)
-  where
-    go : (b : Bool) → pairs_of s (xs ++ d ∷ []) ≡ pairs_of s xs ++ pairs_of s (d ∷ []) → cond b (pairs_of s (xs ++ d ∷ [])) ((s, x) ∷ pairs_of s (xs ++ d ∷ [])) ≡ cond b (pairs_of s xs) ((s, x) ∷ pairs_of s xs) ++ pairs_of s (d ∷ [])
-    go true e = e
-    go false e = ap (λ ps. (s, x) ∷ ps) e
+of_push s (x ∷ xs) d = let more = of_push s xs d in grind (arith, nat_tests)
 
 from_push : (ss ases : List ℕ) (s : ℕ) → pairs_from (ss ++ s ∷ []) ases ≡ pairs_from ss ases ++ pairs_of s ases
 from_push [] ases s = append-nil (pairs_of s ases)
@@ -31,13 +27,13 @@ module _ (net : Network) (s : ℕ) (ases : List ℕ) (i : ℕ) (h : i < length a
   -- a row for the next AS ..
   pub row_more : (row : Row) → (get_or ases i 0 ≡ s → ⊥) → RowRight net s (get_or ases i 0) row → RowsRight net (pairs_of s (take (i + 1) ases)) (rows ++ row ∷ [])
   row_more row n r =
-      let one : pairs_of s (get_or ases i 0 ∷ []) ≡ (s, get_or ases i 0) ∷ [] = ap (λ b. cond b [] ((s, get_or ases i 0) ∷ [])) (ne_eqb (get_or ases i 0) s n) in
+      let one : pairs_of s (get_or ases i 0 ∷ []) ≡ (s, get_or ases i 0) ∷ [] = grind (arith, nat_tests) in
       subst (λ ps. RowsRight net ps (rows ++ row ∷ [])) (sym (more ∙ ap (λ qs. pairs_of s (take i ases) ++ qs) one)) (rows_append net (pairs_of s (take i ases)) ((s, get_or ases i 0) ∷ []) rows (row ∷ []) right (r, tt))
 
   -- .. or none, where it is the source
   pub row_same : get_or ases i 0 ≡ s → RowsRight net (pairs_of s (take (i + 1) ases)) rows
   row_same e =
-      let none : pairs_of s (get_or ases i 0 ∷ []) ≡ [] = ap (λ b. cond b [] ((s, get_or ases i 0) ∷ [])) (eq-eqb (get_or ases i 0) s e) in
+      let none : pairs_of s (get_or ases i 0 ∷ []) ≡ [] = grind (arith, nat_tests) in
       subst (λ ps. RowsRight net ps rows) (sym (more ∙ (ap (λ qs. pairs_of s (take i ases) ++ qs) none ∙ append-nil (pairs_of s (take i ases))))) right
 
 -- the rows of the next source

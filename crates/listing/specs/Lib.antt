@@ -1,4 +1,5 @@
 pub mod Listings
 pub mod Pages
 pub mod Rows
+pub mod Settled
 pub mod Surveys

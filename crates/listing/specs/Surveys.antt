@@ -1,5 +1,5 @@
 -- The first pass over a list: which ASes its lines name, or its first fault. Assumes nothing.
-use Rattle.std.specs.Prelude.{◌≡◌, ℕ, suc, ◌+◌, cond, List, [], ◌∷◌, length, take, drop, Ok, Err, Result, ◌==◌, nat_lt}
+use Rattle.std.specs.Prelude.{◌≡◌, ℕ, ◌+◌, cond, List, [], ◌∷◌, length, take, drop, Ok, Err, Result, ◌==◌, nat_lt}
 use Rattle.link_text.specs.declared.types.Field.{Field}
 use Rattle.link_text.specs.declared.types.Field.TheVariants.{First, Second, Relation, Delay, Width}
 use Rattle.link_text.specs.declared.types.TextFault.{TextFault}
@@ -13,11 +13,6 @@ use Rattle.link_list.specs.Loads.{fault}
 abbrev pub noted : ℕ → List ℕ → List ℕ
 noted a [] = a ∷ []
 noted a (b ∷ bs) = cond (nat_lt b a) (b ∷ noted a bs) (cond (b == a) (b ∷ bs) (a ∷ (b ∷ bs)))
-
--- how many of the ASes in front are less
-abbrev pub spot_of : ℕ → List ℕ → ℕ
-spot_of a [] = 0
-spot_of a (b ∷ bs) = cond (nat_lt b a) (suc (spot_of a bs)) 0
 
 -- go on with what the text says, unless it is at fault
 abbrev pub reading : {A B : Type 0} → Result A TextFault → (A → Result B Cause) → Result B Cause

@@ -1,41 +1,36 @@
 // The route lister's work: from the bytes of a link list to what is printed.
 #![tactic(auto)]
 
-ghost use Rattle.std.specs.Prelude.{◌≡◌, ◌≤◌, true, length, IfOk, string_bytes};
-ghost use Rattle.network.specs.Rosters.{climbs};
+ghost use Rattle.std.specs.Prelude.{◌≡◌, IfOk, string_bytes};
 ghost use Rattle.listing.specs.Listings.{Tables, Lists};
-ghost use Rattle.listing.specs.Pages.{line as line_of, fault_numbers, printed};
+ghost use Rattle.listing.specs.Pages.{printed};
 
 mod all_pairs;
-mod fill;
 mod page;
 mod survey;
 pub mod types;
 
-use fill::fill_table;
+use all_pairs::{AllPairs, settle_all};
+use link_list::load::load;
 use link_list::types::{Cause, Fault};
-use page::{page_of, put_line};
 use settle::types::Work;
 use std::alloc::{AllocError, Global};
-use stores::grid::GridStore;
-use survey::{MOST_ASES, survey};
-use table::types::{BLANK, Entry, Table};
+use stores::grid::{GridStore, MOST_ASES};
+use survey::Named;
+use table::types::{Entry, Table};
 use types::Listing;
 use waiting::types::Slot;
 
 // The most bytes of a list: 276 lines, one for each pair of 24 ASes.
 pub const MOST_BYTES: usize = 11_316;
 
-// The table of a list whose form is right and which names these ASes.
-fn table_of(heap: Global, text: &[u8], ases: &[u32]) -> Result<Listing, AllocError>
-    requires few { length ases.now ≤ 24 }
-    requires rising { climbs 0 ases.now ≡ true }
-    ensures { IfOk result (λ l. Tables ases.now text.now l) }
+// The table of a list whose form is right, over the ASes that it names.
+fn table_of(heap: Global, text: &[u8], named: &Named) -> Result<Listing, AllocError>
+    ensures { IfOk result (λ l. Tables named.now.ases.items text.now l) }
 {
-    let mut entries = [Entry {
-        next: BLANK,
-        cost: 0u32,
-    }; 2 * MOST_ASES * MOST_ASES];
+    let ases = named.ases.as_slice();
+    // The memory of a board of 24 ASes, here and where a script runs: a struct of these arrays would be no shorter.
+    let mut entries = [Entry::blank(0u32); 2 * MOST_ASES * MOST_ASES];
     let mut marks = [0u8; MOST_ASES];
     let mut slots = [Slot {
         place: 0,
@@ -51,7 +46,17 @@ fn table_of(heap: Global, text: &[u8], ases: &[u32]) -> Result<Listing, AllocErr
         waiting: &mut slots,
         numbers: &mut numbers,
     };
-    fill_table(heap, text, ases, &mut store, &mut table, &mut work)
+    if let Err(fault) = load(&mut store, &mut table, text) {
+        return Ok(Listing::Faulty(fault));
+    }
+    // Never refused: the memory is enough, and the ASes are the store's.
+    let _ = settle_all(&store, &mut table, &mut work, ases);
+    let pairs = AllPairs {
+        store: &store,
+        table: &table,
+        ases,
+    };
+    Ok(Listing::Table(pairs.rows(heap)?))
 }
 
 // The table of a link list, or its first fault.
@@ -64,29 +69,16 @@ pub fn list_routes(heap: Global, text: &[u8]) -> Result<Listing, AllocError>
             line: 0,
         }));
     }
-    let mut ases = Vec::with_capacity(heap, MOST_ASES)?;
-    if let Err(fault) = survey(&mut ases, text) {
+    let mut named = Named::new(heap)?;
+    if let Err(fault) = named.survey(text) {
         return Ok(Listing::Faulty(fault));
     }
-    table_of(heap, text, &ases)
+    table_of(heap, text, &named)
 }
 
 // What is printed of a listing.
 pub fn print_listing(heap: Global, listing: &Listing) -> Result<String, AllocError>
     ensures { IfOk result (λ text. string_bytes text ≡ printed listing.now) }
 {
-    match listing {
-        Listing::Table(rows) => page_of(heap, rows),
-        Listing::Faulty(fault) => fault_line(heap, *fault),
-    }
-}
-
-// The line of a fault.
-fn fault_line(heap: Global, fault: Fault) -> Result<String, AllocError>
-    ensures { IfOk result (λ text. string_bytes text ≡ line_of (fault_numbers fault)) }
-{
-    let mut text = String::new(heap);
-    let numbers = [fault.number(), fault.line, fault.column(), fault.layer()];
-    put_line(heap, &mut text, &numbers)?;
-    Ok(text)
+    listing.to_string(heap)
 }

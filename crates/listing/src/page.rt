@@ -1,54 +1,44 @@
 // The text that is printed.
-ghost use Rattle.std.specs.Prelude.{◌≡◌, ◌++◌, IfOk, string_bytes, OnOk};
-ghost use Rattle.listing.specs.Pages.{column, line, numbers, page};
+ghost use Rattle.std.specs.Prelude.{Some};
+ghost use Rattle.listing.specs.Pages.{line, numbers, printed};
 
-use crate::types::Row;
-use std::alloc::{AllocError, Global};
+use crate::types::{Listing, Row};
+use std::fmt;
 
-// Adds a number in 10 columns.
-fn put_column(heap: Global, text: &mut String, number: usize) -> Result<(), AllocError>
-    ensures { OnOk result (string_bytes text.new ≡ string_bytes text.old ++ column number) }
-{
-    let digits = number.to_string(heap)?;
-    for _pad in digits.len()..10 {
-        text.push(' ')?;
+// The line of a row, with zeros where there is no route.
+impl fmt::Display for Row {
+    ghost output = { λ row. Some (line (numbers row)) };
+
+    fn fmt<W: fmt::Write>(&self, f: &mut fmt::Formatter<W>) -> fmt::Result {
+        let route = self.route.unwrap_or_default();
+        writeln!(
+            f,
+            "{:>10}{:>10}{:>10}{:>10}{:>10}",
+            self.source, self.destination, route.next, route.links, route.delay
+        )
     }
-    text.push_str(digits.as_str())?;
-    Ok(())
 }
 
-// Adds a line of numbers.
-pub fn put_line(heap: Global, text: &mut String, numbers: &[usize]) -> Result<(), AllocError>
-    ensures { OnOk result (string_bytes text.new ≡ string_bytes text.old ++ line numbers.now) }
-{
-    for number in numbers {
-        put_column(heap, text, *number)?;
-    }
-    text.push('\n')?;
-    Ok(())
-}
+// The lines of all rows, or the line of the fault.
+impl fmt::Display for Listing {
+    ghost output = { λ listing. Some (printed listing) };
 
-// Adds the line of a row.
-fn put_row(heap: Global, text: &mut String, row: Row) -> Result<(), AllocError>
-    ensures { OnOk result (string_bytes text.new ≡ string_bytes text.old ++ line (numbers row)) }
-{
-    let cells = [
-        row.source as usize,
-        row.destination as usize,
-        row.next as usize,
-        row.links,
-        row.delay as usize,
-    ];
-    put_line(heap, text, &cells)
-}
-
-// The lines of all rows.
-pub fn page_of(heap: Global, rows: &[Row]) -> Result<String, AllocError>
-    ensures { IfOk result (λ text. string_bytes text ≡ page rows.now) }
-{
-    let mut text = String::new(heap);
-    for row in rows {
-        put_row(heap, &mut text, *row)?;
+    fn fmt<W: fmt::Write>(&self, f: &mut fmt::Formatter<W>) -> fmt::Result {
+        match self {
+            Listing::Table(rows) => {
+                for row in rows {
+                    write!(f, "{row}")?;
+                }
+                Ok(())
+            }
+            Listing::Faulty(fault) => writeln!(
+                f,
+                "{:>10}{:>10}{:>10}{:>10}",
+                fault.number(),
+                fault.line,
+                fault.column(),
+                fault.layer()
+            ),
+        }
     }
-    Ok(text)
 }

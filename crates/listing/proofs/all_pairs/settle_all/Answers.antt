@@ -1,6 +1,5 @@
-use Rattle.std.proofs.Common.{◌≡◌, ℕ, ◌<◌, [], ◌∷◌, length, get_or, take, Some, None, sym, refl, ap, ◌∙◌, subst, arith}
-use Rattle.std.proofs.lemmas.List.{take_all}
-use Rattle.network.specs.Rosters.{Among, place}
+use Rattle.std.proofs.Common.{◌≡◌, ℕ, ◌<◌, ◌∷◌, length, get_or, Some, None, ap, ◌∙◌, arith}
+use Rattle.network.specs.Rosters.{place}
 use Rattle.network.proofs.Rising.{rising, place_at}
 use Rattle.measure.specs.Delay.{delay}
 use Rattle.settle.specs.Memory.{memory_of}
@@ -9,9 +8,6 @@ use Rattle.runs.proofs.Filled.{holds_more}
 use Rattle.listing.proofs.AllSettled.{no_cause, has_more}
 use Rattle.listing.proofs.all_pairs.settle_all.Given as given
 use Rattle.listing.proofs.all_pairs.settle_all.Goals as goal
-
-pub loop-destination-init : goal.loop-destination-init
-loop-destination-init g c = (refl, refl, refl, refl, c.requires.slots, c.requires.numbers, ([], c.requires.holds, λ a h. absurd h))
 
 -- the AS whose turn it is stands in the roster
 turn : (g : given.Over) (c : goal.After-from_residual g) → place (g.S.Store.roster c.args.store.now) (get_or c.args.ases.now c.loop-destination.destination-index 0) ≡ Some c.loop-destination.destination-index
@@ -25,7 +21,7 @@ accepted : (g : given.Over) (c : goal.After-from_residual g) → cause (g.S.Stor
 accepted g c =
     let roster = g.S.Store.roster c.args.store.now in
     let i = c.loop-destination.invariant in
-    no_cause roster (get_or c.args.ases.now c.loop-destination.destination-index 0) c.loop-destination.destination-index (memory_of c.loop-destination.table c.loop-destination.work) i.6.1.enough (omega (arith, ap length c.requires.all, i.4)) (omega (arith, ap length c.requires.all, i.5)) (turn g c)
+    no_cause roster (get_or c.args.ases.now c.loop-destination.destination-index 0) c.loop-destination.destination-index (memory_of c.loop-destination.table c.loop-destination.work) i.2.1.enough (omega (arith, ap length c.requires.all, i.0)) (omega (arith, ap length c.requires.all, i.1)) (turn g c)
 
 pub returns-in_err-settle : goal.returns-in_err-settle
 returns-in_err-settle g c =
@@ -42,22 +38,8 @@ loop-destination-preserved g c =
     let a = get_or c.args.ases.now c.loop-destination.destination-index 0 in
     let before = memory_of c.loop-destination.table c.loop-destination.work in
     let after = memory_of c.settle.new.table c.settle.new.work in
-    let more = holds_more delay (g.S.Store.roster c.args.store.now) (g.S.Store.book c.args.store.now) i.6.0 before after i.6.1 a done.0 done.1 c.in_ok-settle.field-0 done.2 in (
-      e.lent.entries ∙ i.0,
-      e.lent.marks ∙ i.1,
-      e.lent.waiting ∙ i.2,
-      e.lent.numbers ∙ i.3,
-      omega (arith, done.2.slots, i.4),
-      omega (arith, ap length done.2.numbers, i.5),
-      (a ∷ i.6.0, more, has_more c.args.ases.now i.6.0 c.loop-destination.destination-index c.loop-destination-test.true i.6.2),
+    let more = holds_more delay (g.S.Store.roster c.args.store.now) (g.S.Store.book c.args.store.now) i.2.0 before after i.2.1 a done.0 done.1 c.in_ok-settle.field-0 done.2 in (
+      omega (arith, done.2.slots, i.0),
+      omega (arith, ap length done.2.numbers, i.1),
+      (a ∷ i.2.0, more, has_more c.args.ases.now i.2.0 c.loop-destination.destination-index c.loop-destination-test.true i.2.2),
     )
-
-pub returns : goal.returns
-returns g c =
-    let i = c.loop-destination.invariant in
-    let ases = c.args.ases.now in
-    let all : take c.loop-destination.destination-index ases ≡ g.S.Store.roster c.args.store.now = take_all c.loop-destination.destination-index ases c.loop-destination-test.false ∙ c.requires.all in
-    record {
-      named = record { entries = i.0; marks = i.1; waiting = i.2; numbers = i.3 };
-      settled = (i.6.0, i.6.1, λ a h. i.6.2 a (subst (Among a) (sym all) h));
-    }

@@ -7,10 +7,6 @@ use Rattle.listing.proofs.all_pairs.settle_all.Given as goal
 -- the ASes up to here are settled
 abbrev pub invariant-loop-destination : goal.invariant-loop-destination
 invariant-loop-destination g l =
-    (l.table.entries.ghost_name ≡ l.initial.table.entries.ghost_name) ×
-    (l.table.marks.ghost_name ≡ l.initial.table.marks.ghost_name) ×
-    (l.work.waiting.ghost_name ≡ l.initial.work.waiting.ghost_name) ×
-    (l.work.numbers.ghost_name ≡ l.initial.work.numbers.ghost_name) ×
     (2 * length l.ases ≤ length l.work.waiting.now) ×
     (2 * length l.ases ≤ length l.work.numbers.now) ×
     ((settled : List ℕ) × Holds delay (g.S.Store.roster l.store) (g.S.Store.book l.store) settled l.table.entries.now l.table.marks.now × ((a : ℕ) → Among a (take l.destination-index l.ases) → has settled a ≡ true))

@@ -1,18 +1,15 @@
-use Rattle.std.proofs.Common.{drop, is_ok, Ok, Err, sym, ap, ◌∙◌}
+use Rattle.std.proofs.Common.{drop, Ok, Err, sym, ap, ◌∙◌}
 use Rattle.std.proofs.lemmas.List.{drop-drop}
 use Rattle.std.proofs.lemmas.Result.{err_from_is_err_and}
-use Rattle.std.proofs.lemmas.Bool.{both_ways}
 use Rattle.link_text.specs.Left.{left}
 use Rattle.listing.proofs.Surveyed.{figures_by}
 use Rattle.listing.proofs.survey.survey_figures.Goals as goal
 
-pub returns-in_err-field-3 : goal.returns-in_err-field-3
-returns-in_err-field-3 c =
+pub returns-in_err-field-3-clause-answer : goal.returns-in_err-field-3-clause-answer
+returns-in_err-field-3-clause-answer c =
     let p = err_from_is_err_and c.from_residual-in_err-field-3.result c.from_residual-in_err-field-3.ensures.1 in
     let e = c.in_err-field-3.field-0.0 in
-    let all = figures_by (left c.args.reader.now) (left c.field.new.self) (left c.field-2.new.self) c.in_ok-field.field-0 c.in_ok-field-2.field-0 (Err e) c.in_ok-field.ensures.answer c.field.ensures.moved.1 c.in_ok-field-2.ensures.answer c.field-2.ensures.moved.1 c.in_err-field-3.ensures.answer in
-    let is = p.1 ∙ ap Err p.2 in
-    record { answer = is ∙ sym all; moved = λ ok. absurd (both_ways _ (ap is_ok is) ok) }
+    p.1 ∙ (ap Err p.2 ∙ sym (figures_by (left c.args.reader.now) (left c.field.new.self) (left c.field-2.new.self) c.in_ok-field.field-0 c.in_ok-field-2.field-0 (Err e) c.in_ok-field.ensures.answer c.field.ensures.moved.1 c.in_ok-field-2.ensures.answer c.field-2.ensures.moved.1 c.in_err-field-3.ensures.answer))
 
 pub returns : goal.returns
 returns c =
