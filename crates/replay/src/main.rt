@@ -5,28 +5,21 @@ use anyhow::anyhow;
 use scripts::answers::page_of;
 use scripts::parse::parse_script;
 use scripts::run::run_script;
-use scripts::types::Script;
 use std::io;
 use std::io::Read;
 use std::process::ExitCode;
 
-// Runs a script that is read, and prints its page.
-fn play_script(rt: &HostRuntime, script: &Script) -> anyhow::Result<()> {
-    let Ok(replies) = run_script(rt.alloc(), script) else {
-        return Err(anyhow!("there is no memory for the run"));
-    };
-    let page = page_of(rt.alloc(), &script.lines, &replies)?;
-    print!(rt; "{page}")?;
-    Ok(())
-}
-
+// Reads a script, runs it, and prints its page.
 fn replay_input(rt: &HostRuntime) -> anyhow::Result<()> {
     let mut bytes = Vec::new(rt.alloc());
     rt.stdin().read_to_end(&mut bytes)?;
-    match parse_script(rt.alloc(), &bytes) {
-        Ok(script) => play_script(rt, &script),
-        Err(fault) => Err(anyhow!(fault.to_string(rt.alloc())?)),
-    }
+    let script = parse_script(rt.alloc(), &bytes)?;
+    let Ok(replies) = run_script(rt.alloc(), &script) else {
+        return Err(anyhow!("there is no memory for the run"));
+    };
+    let page = page_of(rt.alloc(), &script.calls, &replies)?;
+    print!(rt; "{page}")?;
+    Ok(())
 }
 
 fn main(rt: HostRuntime) -> io::Result<ExitCode> {

@@ -1,11 +1,11 @@
 -- A column more is filled, and the table memory holds it with the others. Assumes nothing.
 use Rattle.std.proofs.Common.{◌≡◌, ℕ, suc, ◌+◌, ◌*◌, ◌<◌, ◌≤◌, ◌||◌, eqb, ltb, ◌≢◌, ◌⊎◌, List, ◌∷◌, length, get_or, Some, None, Option, sym, refl, ap, ◌∙◌, subst, subst₂, inl, inr, mul-le-mul_right, suc-mul, arith}
+use Rattle.std.proofs.lemmas.Option.{same_Some}
 use Rattle.std.proofs.lemmas.List.{length-set, get_or-set_same, get_or-set_other}
 use Rattle.std.proofs.lemmas.Bool.{cases_eq, cases_lt, eq-eqb, ne_eqb}
 use Rattle.network.specs.declared.types.Link.{Link}
 use Rattle.network.specs.Rosters.{place}
 use Rattle.network.proofs.Rising.{place_stands}
-use Rattle.network.proofs.Somes.{some_inj}
 use Rattle.measure.specs.Measures.{Measure}
 use Rattle.legality.specs.declared.types.Class.{Class}
 use Rattle.legality.specs.Networks.{net_of}
@@ -74,7 +74,7 @@ module _ {C : Type 0} (m : Measure C) (roster : List ℕ) (book : List Link) (se
     where
       go : (d ≡ d') ⊎ (d ≢ d') → has (d ∷ settled) d' ≡ eqb (get_or after.marks j' 0) 1
       go (inl z) =
-          let spot : j ≡ j' = some_inj (sym here ∙ ap (place roster) z ∙ h) in
+          let spot : j ≡ j' = same_Some _ _ (sym here ∙ ap (place roster) z ∙ h) in
           ap (λ b. b || has settled d') (eq-eqb d d' z) ∙ sym (eq-eqb (get_or after.marks j' 0) 1 (ap (λ k. get_or after.marks k 0) (sym spot) ∙ mark_here))
       go (inr n) = ap (λ b. b || has settled d') (ne_eqb d d' n) ∙ holds.marked d' j' h ∙ ap (λ k. eqb k 1) (sym (mark_at j' (λ z. n (same_as d' j' h z))))
 

@@ -1,6 +1,5 @@
 -- Each call answers what it must, and leaves a board that stands for the plain board after it. Assumes nothing.
 use Rattle.std.proofs.Common.{◌≡◌, ℕ, ◌*◌, Bool, false, cond, not, ◌||◌, ltb, List, [], ◌∷◌, length, replicate, is_some, Some, None, Ok, Err, vec_items, Option, Result, Vec, sym, refl, ap, ◌∙◌, subst, subst₂}
-use Rattle.std.specs.declared.alloc.AllocError.{AllocError}
 use Rattle.std.specs.declared.alloc.Global.{Global}
 use Rattle.std.proofs.lemmas.List.{length-replicate}
 use Rattle.std.proofs.lemmas.Bool.{cond-false}
@@ -29,12 +28,10 @@ use Rattle.board.specs.Edits.{told, cleared, BoardEdits}
 use Rattle.board.proofs.Told.{as_edit, first_told}
 use Rattle.runs.specs.declared.types.Edit.{Edit}
 use Rattle.runs.specs.declared.types.ReadCall.TheVariants.{Settle, Hop, Send}
-use Rattle.runs.specs.declared.types.Call.{Call}
 use Rattle.runs.specs.declared.types.Call.TheVariants as calls
-use Rattle.runs.specs.declared.types.Reply.{Reply}
 use Rattle.runs.specs.declared.types.Reply.TheVariants.{Edited, Settled, Hopped, Sent}
 use Rattle.runs.specs.Plain.{Plain, Board, Stands}
-use Rattle.runs.specs.Runs.{causes_of, book_after, settle_causes, Reaches, SettlesSo, Judged, Played, Brings, Plays}
+use Rattle.runs.specs.Runs.{causes_of, book_after, settle_causes, Reaches, SettlesSo, Judged, Played}
 use Rattle.runs.specs.Work.{SettledWith}
 use Rattle.runs.proofs.Stood.{plain_of, on_plain, stood, holds_none, holds_moved}
 use Rattle.runs.proofs.Filled.{holds_more}
@@ -64,11 +61,6 @@ module _ {C : Type 0} (m : Measure C) (b : Board C) (p : Plain) (stands : Stands
 -- the board with other table memory
 abbrev pub with_table : {C : Type 0} → Board C → List (Entry C) → List ℕ → Board C
 with_table b entries marks = record { roster = b.roster; book = b.book; limit = b.limit; entries = entries; marks = marks }
-
--- there is no memory for a call, and all is as it was
-pub not_played : {C : Type 0} (m : Measure C) (b : Board C) (entries' : List (Entry C)) (marks' : List ℕ) (call : Call) {r : Result (Reply C) AllocError} {Q : AllocError → Type 0} → entries' ≡ b.entries → marks' ≡ b.marks →
-    Brings call → (y : AllocError) × (r ≡ Err y) × Q y → Plays m b (with_table b entries' marks') call r
-not_played m b entries' marks' call p q brings answer = subst (Plays m b (with_table b entries' marks') call) (sym answer.1) (brings, ap (λ x. with_table b x marks') p ∙ ap (with_table b b.entries) q)
 
 -- settle's causes are the plain board's, where the table memory is large enough
 cause_is : {C : Type 0} (roster : List ℕ) (d : ℕ) (memory : Memory C) → small (length roster) memory.entries memory.marks ≡ false →

@@ -1,14 +1,13 @@
 -- Runs, from the opening of a board, call by call. Assumes nothing.
-use Rattle.std.proofs.Common.{◌≡◌, ℕ, ◌+◌, ◌<◌, ◌≤◌, Bool, true, false, List, [], ◌∷◌, ◌++◌, map, length, get_or, take, drop, Some, None, Ok, Err, vec_items, Result, Vec, sym, refl, ap, ◌∙◌, subst, subst₂, arith}
+use Rattle.std.proofs.Common.{◌≡◌, ℕ, ◌+◌, ◌<◌, ◌≤◌, Bool, true, false, List, [], ◌∷◌, ◌++◌, map, length, get_or, take, drop, None, Ok, Err, vec_items, Result, Vec, sym, refl, ap, ◌∙◌, subst, subst₂, arith}
 use Rattle.std.specs.declared.alloc.Global.{Global}
 use Rattle.std.proofs.lemmas.List.{take_more, take_all, take-append-drop, length-map, get_or-map}
 use Rattle.network.specs.Causes.{first_cause}
 use Rattle.network.specs.Edits.{unless}
-use Rattle.network.proofs.Answered.{cause_of, no_cause_of}
+use Rattle.network.proofs.Answered.{no_cause_of}
 use Rattle.measure.specs.Measures.{Measure}
 use Rattle.table.specs.declared.types.Entry.{Entry}
 use Rattle.table.specs.Memory.{small}
-use Rattle.board.specs.declared.types.BoardRefusal.{BoardRefusal}
 use Rattle.board.specs.declared.types.BoardRefusal.TheVariants.{TableTooSmall}
 use Rattle.board.specs.Edits.{cleared, Opens}
 use Rattle.runs.specs.declared.types.Call.{Call}
@@ -39,20 +38,8 @@ module _ {C : Type 0} (m : Measure C) where
       (large, record { end = fresh b; run = Run.done (fresh b); stands = stood m b' [] (holds_moved m [] refl refl x.entries_then marks_are (holds_none m b.roster b.book b.entries b.marks large)) })
     where
       large_so : (t : Bool) → first_cause ((TableTooSmall, t) ∷ []) ≡ None → t ≡ false
-      large_so true e = let z : ◌≡◌ {A = ℕ} 0 1 = cc in absurd (omega arith)
+      large_so true e = cc
       large_so false e = refl
-
--- a board that was not opened
-pub not_opened : {C : Type 0} (n : ℕ) (entries entries' : List (Entry C)) (marks marks' : List ℕ) (x : BoardRefusal) → Opens n entries entries' marks marks' (Err x) →
-    (small n entries marks ≡ true) × (x ≡ TableTooSmall) × (marks' ≡ marks)
-not_opened n entries entries' marks marks' x o =
-    let why = cause_of (first_cause ((TableTooSmall, small n entries marks) ∷ [])) x o.answer in
-    let so = small_so (small n entries marks) why in
-    (so.0, so.1, o.marks_then ∙ ap (λ z. unless z marks (cleared n marks)) why)
-  where
-    small_so : (t : Bool) → first_cause ((TableTooSmall, t) ∷ []) ≡ Some x → (t ≡ true) × (x ≡ TableTooSmall)
-    small_so true e = (refl, cc)
-    small_so false e = let z : ◌≡◌ {A = ℕ} 0 1 = cc in absurd (omega arith)
 
 -- A run over the calls of a list; `made` counts those that were made.
 module _ {C : Type 0} (m : Measure C) (calls : List Call) where

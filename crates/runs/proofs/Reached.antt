@@ -2,7 +2,7 @@
 use Rattle.std.proofs.Common.{◌≡◌, ℕ, suc, ◌+◌, ◌*◌, ◌<◌, ◌≤◌, Bool, true, false, cond, not, eqb, ltb, ◌≢◌, ◌⊎◌, List, [], ◌∷◌, length, get_or, drop, is_some, Some, None, sym, refl, ap, ◌∙◌, subst, inl, inr, mul-le-mul_left, mul-suc, arith}
 use Rattle.std.proofs.lemmas.List.{length-take-le, length-drop, get_or-take, get_or-drop}
 use Rattle.std.proofs.lemmas.List.Sums.{sum_by-cons}
-use Rattle.std.proofs.lemmas.Bool.{both_ways, cases_Bool, cases_eq, and_parts, ltb-true}
+use Rattle.std.proofs.lemmas.Bool.{cases_Bool, cases_eq, and_parts, ltb-true}
 use Rattle.network.specs.declared.types.Link.{Link}
 use Rattle.network.specs.Rosters.{Among, climbs, place}
 use Rattle.network.specs.Sound.{Sound}
@@ -17,7 +17,7 @@ use Rattle.legality.specs.Tables.{Table}
 use Rattle.legality.proofs.Entries.{shortest_at, no_path_at}
 use Rattle.legality.proofs.Steps.{stay}
 use Rattle.table.specs.declared.types.Entry.{Entry}
-use Rattle.table.specs.Columns.{blank, read, number, pair, at_place, filled}
+use Rattle.table.specs.Columns.{blank, read, pair, at_place, filled}
 use Rattle.table.specs.Memory.{index, decoded, column_of, Column}
 use Rattle.table.proofs.Cells.{index_is}
 use Rattle.table.proofs.Pairs.{pair_below}
@@ -50,7 +50,7 @@ module _ {X : Type 0} where
   in_when : (b : Bool) (x y : X) (xs : List X) → ((y ≡ x) × (b ≡ true)) ⊎ Among y xs → Among y (when b x xs)
   in_when true x y xs (inl h) = inl h.0
   in_when true x y xs (inr a) = inr a
-  in_when false x y xs (inl h) = absurd (both_ways false refl h.1)
+  in_when false x y xs (inl h) = cc
   in_when false x y xs (inr a) = a
 
   when_once : (b : Bool) (x : X) (xs : List X) → ¬ Among x xs → Distinct xs → Distinct (when b x xs)
@@ -104,7 +104,7 @@ module _ (g : ℕ → Class → Bool) where
       (when_once (g x Outside) (x, Outside) (pairs bs) (λ m. d.0 (pairs_in bs x Outside m).0) (pairs_once bs d.1))
     where
       apart : ((◌≡◌ {A = ℕ × Class} (x, Home) (x, Outside)) × (g x Outside ≡ true)) ⊎ Among (x, Home) (pairs bs) → ⊥
-      apart (inl p) = let z : ◌≡◌ {A = ℕ} 0 1 = ap (λ q. number q.1) p.0 in omega arith
+      apart (inl p) = cc (ap (λ q. q.1) p.0)
       apart (inr m) = d.0 (pairs_in bs x Home m).0
 
   -- as many as the entries of a column that are not blank, where those are picked

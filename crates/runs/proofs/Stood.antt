@@ -51,6 +51,4 @@ holds_none m roster book entries marks large =
 -- what is held is held by the same board
 pub holds_moved : {C : Type 0} (m : Measure C) {roster roster' : List ℕ} {book book' : List Link} {entries entries' : List (Entry C)} {marks marks' : List ℕ} (settled : List ℕ) →
     roster' ≡ roster → book' ≡ book → entries' ≡ entries → marks' ≡ marks → Holds m roster book settled entries marks → Holds m roster' book' settled entries' marks'
-holds_moved m {roster} {roster'} {book} {book'} {entries} {entries'} {marks} {marks'} settled p q r s h =
-    subst (λ x. Holds m x book' settled entries' marks') (sym p) (subst (λ x. Holds m roster x settled entries' marks') (sym q)
-    (subst (λ x. Holds m roster book settled x marks') (sym r) (subst (λ x. Holds m roster book settled entries x) (sym s) h)))
+holds_moved m settled p q r s h = rw (p, q, r, s) h

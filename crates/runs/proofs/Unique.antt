@@ -1,9 +1,9 @@
 -- The plain board wants one answer to a call. Assumes nothing.
-use Rattle.std.proofs.Common.{◌≡◌, ℕ, ◌+◌, ◌≤◌, List, [], ◌∷◌, ◌++◌, length, drop, replicate, Some, None, Ok, Err, vec_items, Option, Result, sym, refl, ap, ◌∙◌, subst, arith}
+use Rattle.std.proofs.Common.{◌≡◌, ℕ, ◌+◌, ◌≤◌, List, [], ◌∷◌, ◌++◌, length, drop, replicate, Some, None, Ok, Err, Option, Result, sym, refl, ap, ◌∙◌, subst, arith}
 use Rattle.network.specs.declared.types.Link.{Link}
 use Rattle.network.specs.Causes.{first_cause}
-use Rattle.network.specs.Edits.{answered}
-use Rattle.network.proofs.Somes.{some_inj, none_some, same_pair}
+use Rattle.std.proofs.lemmas.Option.{same_Some}
+use Rattle.network.proofs.Somes.{same_pair}
 use Rattle.measure.specs.Measures.{Measure, Laws, AtMost}
 use Rattle.legality.specs.declared.types.Class.{Class}
 use Rattle.legality.specs.Classes.{allowed}
@@ -13,12 +13,11 @@ use Rattle.legality.specs.Tables.{Shortest}
 use Rattle.legality.proofs.Lists.{pigeonhole}
 use Rattle.table.specs.declared.types.RouteRefusal.{RouteRefusal}
 use Rattle.routes.specs.Routes.{Walks, Hops, Sends}
-use Rattle.board.specs.Edits.{told}
 use Rattle.runs.specs.declared.types.Call.{Call}
 use Rattle.runs.specs.declared.types.Reply.{Reply}
-use Rattle.runs.specs.declared.types.Reply.TheVariants.{Edited, Settled, Hopped, Sent}
+use Rattle.runs.specs.declared.types.Reply.TheVariants.{Edited, Settled, Hopped}
 use Rattle.runs.specs.Plain.{Plain}
-use Rattle.runs.specs.Runs.{causes_of, settle_causes, Reaches, SettlesSo, Judged}
+use Rattle.runs.specs.Runs.{settle_causes, Reaches, SettlesSo, Judged}
 use Rattle.runs.specs.Theorems.{Alike}
 
 reaches_one : (net : Network) (d k k' : ℕ) → Reaches net d k → Reaches net d k' → k ≡ k'
@@ -55,7 +54,7 @@ module _ {C : Type 0} (m : Measure C) (laws : Laws m) (net : Network) (d : ℕ) 
       let t' = w'.2 in
       let step : net.step x b ≡ Some (t'.0, t'.1) = ap (λ z. net.step z b) (sym from) ∙ ap (net.step y) next ∙ t'.3 in
       let way : t.0 ≡ t'.0 = (same_pair t.3 step).0 in
-      let class : t'.2 ≡ t.2 = some_inj (sym t'.4 ∙ ap (allowed e) (sym way) ∙ t.4) in
+      let class : t'.2 ≡ t.2 = same_Some _ _ (sym t'.4 ∙ ap (allowed e) (sym way) ∙ t.4) in
       let rest = walks_one (b ∷ r) (b' ∷ r') t.2 b refl (sym next) t.5 (subst (λ z. Walks m net d z (b' ∷ r')) class t'.5) in
       ap (λ z. z ∷ (b ∷ r)) (sym from) ∙ ap (λ z. y ∷ z) rest
 
@@ -64,19 +63,19 @@ module _ {C : Type 0} (m : Measure C) (laws : Laws m) (roster : List ℕ) (book 
   net = net_of roster book
 
   hops_one : (s : ℕ) (e : Class) (d : ℕ) {r r' : Result (Option ℕ) RouteRefusal} → Hops m roster book settled s e d r → Hops m roster book settled s e d r' → r ≡ r'
-  hops_one s e d (Hops.refused x h) (Hops.refused x' h') = ap Err (some_inj (sym h ∙ h'))
-  hops_one s e d (Hops.refused x h) (Hops.there h' z) = absurd (none_some h' h)
-  hops_one s e d (Hops.refused x h) (Hops.shut h' n none) = absurd (none_some h' h)
-  hops_one s e d (Hops.refused x h) (Hops.next b c h' n k) = absurd (none_some h' h)
-  hops_one s e d (Hops.there h z) (Hops.refused x' h') = absurd (none_some h h')
+  hops_one s e d (Hops.refused x h) (Hops.refused x' h') = ap Err (same_Some _ _ (sym h ∙ h'))
+  hops_one s e d (Hops.refused x h) (Hops.there h' z) = cc
+  hops_one s e d (Hops.refused x h) (Hops.shut h' n none) = cc
+  hops_one s e d (Hops.refused x h) (Hops.next b c h' n k) = cc
+  hops_one s e d (Hops.there h z) (Hops.refused x' h') = cc
   hops_one s e d (Hops.there h z) (Hops.there h' z') = refl
   hops_one s e d (Hops.there h z) (Hops.shut h' n none) = absurd (n z)
   hops_one s e d (Hops.there h z) (Hops.next b c h' n k) = absurd (n z)
-  hops_one s e d (Hops.shut h n none) (Hops.refused x' h') = absurd (none_some h h')
+  hops_one s e d (Hops.shut h n none) (Hops.refused x' h') = cc
   hops_one s e d (Hops.shut h n none) (Hops.there h' z') = absurd (n z')
   hops_one s e d (Hops.shut h n none) (Hops.shut h' n' none') = refl
   hops_one s e d (Hops.shut h n none) (Hops.next b c h' n' k) = absurd (none k.path k.route)
-  hops_one s e d (Hops.next b c h n k) (Hops.refused x' h') = absurd (none_some h h')
+  hops_one s e d (Hops.next b c h n k) (Hops.refused x' h') = cc
   hops_one s e d (Hops.next b c h n k) (Hops.there h' z') = absurd (n z')
   hops_one s e d (Hops.next b c h n k) (Hops.shut h' n' none) = absurd (none k.path k.route)
   hops_one s e d (Hops.next b c h n k) (Hops.next b' c' h' n' k') = ap (λ z. Ok (Some z)) (shortest_one m laws net d s e b b' c c' k k')
@@ -88,20 +87,20 @@ module _ {C : Type 0} (m : Measure C) (laws : Laws m) (roster : List ℕ) (book 
       (ap (λ z. Ok (cost m net z, links)) same ∙ ap (λ z. Ok (cost m net q', z)) count, ap (λ z. z ++ drop (length z) ws) same)
 
   sends_one : (s d : ℕ) (ws : List ℕ) {r r' : Result (C × ℕ) RouteRefusal} {l l' : List ℕ} → Sends m roster book settled s d ws r l → Sends m roster book settled s d ws r' l' → (r ≡ r') × (l ≡ l')
-  sends_one s d ws (Sends.refused x h) (Sends.refused x' h') = (ap Err (some_inj (sym h ∙ h')), refl)
-  sends_one s d ws (Sends.refused x h) (Sends.shut h' none) = absurd (none_some h' h)
-  sends_one s d ws (Sends.refused x h) (Sends.long q h' k w cut) = absurd (none_some h' h)
-  sends_one s d ws (Sends.refused x h) (Sends.sent q links h' k w least n fits) = absurd (none_some h' h)
-  sends_one s d ws (Sends.shut h none) (Sends.refused x' h') = absurd (none_some h h')
+  sends_one s d ws (Sends.refused x h) (Sends.refused x' h') = (ap Err (same_Some _ _ (sym h ∙ h')), refl)
+  sends_one s d ws (Sends.refused x h) (Sends.shut h' none) = cc
+  sends_one s d ws (Sends.refused x h) (Sends.long q h' k w cut) = cc
+  sends_one s d ws (Sends.refused x h) (Sends.sent q links h' k w least n fits) = cc
+  sends_one s d ws (Sends.shut h none) (Sends.refused x' h') = cc
   sends_one s d ws (Sends.shut h none) (Sends.shut h' none') = (refl, refl)
   sends_one s d ws (Sends.shut h none) (Sends.long q h' k w cut) = absurd (none q k)
   sends_one s d ws (Sends.shut h none) (Sends.sent q links h' k w least n fits) = absurd (none q k)
-  sends_one s d ws (Sends.long q h k w cut) (Sends.refused x' h') = absurd (none_some h h')
+  sends_one s d ws (Sends.long q h k w cut) (Sends.refused x' h') = cc
   sends_one s d ws (Sends.long q h k w cut) (Sends.shut h' none) = absurd (none q k)
   sends_one s d ws (Sends.long q h k w cut) (Sends.long q' h' k' w' cut') = (refl, refl)
   sends_one s d ws (Sends.long q h k w cut) (Sends.sent q' links h' k' w' least n fits) =
       let same = walks_one m laws net d q q' _ s k.first k'.first w w' in absurd (omega (arith, ap length same))
-  sends_one s d ws (Sends.sent q links h k w least n fits) (Sends.refused x' h') = absurd (none_some h h')
+  sends_one s d ws (Sends.sent q links h k w least n fits) (Sends.refused x' h') = cc
   sends_one s d ws (Sends.sent q links h k w least n fits) (Sends.shut h' none) = absurd (none q k)
   sends_one s d ws (Sends.sent q links h k w least n fits) (Sends.long q' h' k' w' cut) =
       let same = walks_one m laws net d q q' _ s k.first k'.first w w' in absurd (omega (arith, ap length same))
@@ -109,50 +108,43 @@ module _ {C : Type 0} (m : Measure C) (laws : Laws m) (roster : List ℕ) (book 
       sent_alike ws q q' links links' (walks_one m laws net d q q' _ s k.first k'.first w w') n n'
 
 module _ {C : Type 0} (m : Measure C) (laws : Laws m) (p : Plain) where
-  apart : {A : Type 0} → ◌≡◌ {A = ℕ} 0 1 → A
-  apart z = absurd (omega arith)
-
   judged_alike : {call call' : Call} {r r' : Reply C} → call ≡ call' → Judged m p call r → Judged m p call' r' → Alike r r'
   judged_alike eq (Judged.edit e limit r h is) (Judged.edit e' limit' r' h' is') =
       let edits : e ≡ e' = cc in
-      let limits : limit ≡ limit' = some_inj (sym h ∙ h') in
-      let same = is ∙ ap (λ z. answered (first_cause (told (causes_of p.roster p.book z e)))) limits ∙ ap (λ z. answered (first_cause (told (causes_of p.roster p.book limit' z)))) edits ∙ sym is' in
-      subst (λ z. Alike {C = C} (Edited r) (Edited z)) same (Alike.same (Edited r))
-  judged_alike eq (Judged.edit e limit r h is) (Judged.settle d' w' k' r' h') = apart cc
-  judged_alike eq (Judged.edit e limit r h is) (Judged.hop s' e' d' r' h') = apart cc
-  judged_alike eq (Judged.edit e limit r h is) (Judged.send s' d' room' r' list' h') = apart cc
-  judged_alike eq (Judged.settle d w k r h) (Judged.edit e' limit' r' h' is') = apart cc
+      let limits : limit ≡ limit' = cc in
+      let same : r ≡ r' = cc in
+      rw same (Alike.same (Edited r'))
+  judged_alike eq (Judged.edit e limit r h is) (Judged.settle d' w' k' r' h') = cc
+  judged_alike eq (Judged.edit e limit r h is) (Judged.hop s' e' d' r' h') = cc
+  judged_alike eq (Judged.edit e limit r h is) (Judged.send s' d' room' r' list' h') = cc
+  judged_alike eq (Judged.settle d w k r h) (Judged.edit e' limit' r' h' is') = cc
   judged_alike eq (Judged.settle d w k r h) (Judged.settle d' w' k' r' h') =
       let ds : d' ≡ d = cc in
       let ws : w' ≡ w = cc in
       let ks : k' ≡ k = cc in
-      let net : Network = net_of p.roster p.book in
-      let why = λ (a b c : ℕ). first_cause (settle_causes p.roster a b c) in
-      let moved = subst (λ z. SettlesSo net d (why d w z) r') ks (subst (λ z. SettlesSo net d (why d z k') r') ws (subst (λ z. SettlesSo net z (why z w' k') r') ds h')) in
-      subst (λ z. Alike {C = C} (Settled r) (Settled z)) (settles_one net d (why d w k) r r' h moved) (Alike.same (Settled r))
-  judged_alike eq (Judged.settle d w k r h) (Judged.hop s' e' d' r' h') = apart cc
-  judged_alike eq (Judged.settle d w k r h) (Judged.send s' d' room' r' list' h') = apart cc
-  judged_alike eq (Judged.hop s e d r h) (Judged.edit e' limit' r' h' is') = apart cc
-  judged_alike eq (Judged.hop s e d r h) (Judged.settle d' w' k' r' h') = apart cc
+      let moved = rw (ds, ws, ks) at h' in
+      rw (settles_one (net_of p.roster p.book) d (first_cause (settle_causes p.roster d w k)) r r' h moved) (Alike.same (Settled r'))
+  judged_alike eq (Judged.settle d w k r h) (Judged.hop s' e' d' r' h') = cc
+  judged_alike eq (Judged.settle d w k r h) (Judged.send s' d' room' r' list' h') = cc
+  judged_alike eq (Judged.hop s e d r h) (Judged.edit e' limit' r' h' is') = cc
+  judged_alike eq (Judged.hop s e d r h) (Judged.settle d' w' k' r' h') = cc
   judged_alike eq (Judged.hop s e d r h) (Judged.hop s' e' d' r' h') =
       let ss : s' ≡ s = cc in
       let es : e' ≡ e = cc in
       let ds : d' ≡ d = cc in
-      let at = Hops m p.roster p.book p.settled in
-      let moved = subst (λ z. at s e z r') ds (subst (λ z. at s z d' r') es (subst (λ z. at z e' d' r') ss h')) in
-      subst (λ z. Alike {C = C} (Hopped r) (Hopped z)) (hops_one m laws p.roster p.book p.settled s e d h moved) (Alike.same (Hopped r))
-  judged_alike eq (Judged.hop s e d r h) (Judged.send s' d' room' r' list' h') = apart cc
-  judged_alike eq (Judged.send s d room r list h) (Judged.edit e' limit' r' h' is') = apart cc
-  judged_alike eq (Judged.send s d room r list h) (Judged.settle d' w' k' r' h') = apart cc
-  judged_alike eq (Judged.send s d room r list h) (Judged.hop s' e' d' r' h') = apart cc
+      let moved = rw (ss, es, ds) at h' in
+      rw (hops_one m laws p.roster p.book p.settled s e d h moved) (Alike.same (Hopped r'))
+  judged_alike eq (Judged.hop s e d r h) (Judged.send s' d' room' r' list' h') = cc
+  judged_alike eq (Judged.send s d room r list h) (Judged.edit e' limit' r' h' is') = cc
+  judged_alike eq (Judged.send s d room r list h) (Judged.settle d' w' k' r' h') = cc
+  judged_alike eq (Judged.send s d room r list h) (Judged.hop s' e' d' r' h') = cc
   judged_alike eq (Judged.send s d room r list h) (Judged.send s' d' room' r' list' h') =
       let ss : s' ≡ s = cc in
       let ds : d' ≡ d = cc in
       let rs : room' ≡ room = cc in
-      let at = λ (a b c : ℕ). Sends m p.roster p.book p.settled a b (replicate c 0) r' (vec_items list') in
-      let moved = subst (λ z. at s d z) rs (subst (λ z. at s z room') ds (subst (λ z. at z d' room') ss h')) in
+      let moved = rw (ss, ds, rs) at h' in
       let one = sends_one m laws p.roster p.book p.settled s d (replicate room 0) h moved in
-      subst (λ z. Alike (Sent r list) (Sent z list')) one.0 (Alike.lists r list list' one.1)
+      rw one.0 (Alike.lists r' list list' one.1)
 
   pub one_answer : (call : Call) (r r' : Reply C) → Judged m p call r → Judged m p call r' → Alike r r'
   one_answer call r r' h h' = judged_alike refl h h'

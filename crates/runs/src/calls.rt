@@ -1,7 +1,7 @@
 // The calls of a run, each with the memory that it brings.
-ghost use Rattle.std.specs.Prelude.{◌≡◌, ◌∷◌, length, replicate, IfOk};
+ghost use Rattle.std.specs.Prelude.{◌≡◌, ◌∷◌, length};
 ghost use Rattle.legality.specs.Networks.{net_of};
-ghost use Rattle.table.specs.Memory.{small};
+ghost use Rattle.table.specs.Memory.{small, SameMemory};
 ghost use Rattle.routes.specs.Raw.{sending};
 ghost use Rattle.board.specs.declared.types.BoardRefusal.TheVariants.{TableTooSmall as TooSmallT};
 ghost use Rattle.board.specs.Edits.{told, BoardEdits};
@@ -20,13 +20,13 @@ use std::alloc::{AllocError, Global};
 use table::types::{RouteRefusal, Table};
 use waiting::types::Slot;
 
-// Makes an edit through the board.
+// Makes an edit through the board: a `match`, since an edit is one of three records that the plain board judges, and no step to choose.
 pub fn edit_board<S: EditableStore, C: Copy>(
     store: &mut S,
     table: &mut Table<'_, '_, C>,
     edit: Edit,
 ) -> Result<(), BoardRefusal>
-    ensures named { (table.new.entries.ghost_name ≡ table.old.entries.ghost_name) × (table.new.marks.ghost_name ≡ table.old.marks.ghost_name) }
+    ensures same { SameMemory table.old table.new }
     ensures edits { BoardEdits ((TooSmallT, small (length (S.Store.roster store.old)) table.old.entries.now table.old.marks.now) ∷ told (causes_of (S.Store.roster store.old) (S.Store.book store.old) (S.limit store.old) edit)) (book_after (S.Store.book store.old) edit) (S.Store.roster store.old) (S.Store.roster store.new) (S.Store.book store.old) (S.Store.book store.new) (S.limit store.old) (S.limit store.new) table.old.entries.now table.new.entries.now table.old.marks.now table.new.marks.now result }
 {
     match edit {
@@ -45,15 +45,6 @@ pub fn edit_board<S: EditableStore, C: Copy>(
     }
 }
 
-// Memory of so many places, with x in each.
-fn places<T: Copy>(heap: Global, count: usize, x: T) -> Result<Vec<T>, AllocError>
-    ensures { IfOk result (λ v. v.items ≡ replicate count x) }
-{
-    let mut items = Vec::new(heap);
-    items.resize(count, x)?;
-    Ok(items)
-}
-
 // Settles an AS with so much work memory.
 pub fn settle_with<S: Store, M: Measure>(
     heap: Global,
@@ -63,15 +54,15 @@ pub fn settle_with<S: Store, M: Measure>(
     waiting: usize,
     numbers: usize,
 ) -> Result<Result<usize, RouteRefusal>, AllocError>
-    ensures named { (table.new.entries.ghost_name ≡ table.old.entries.ghost_name) × (table.new.marks.ghost_name ≡ table.old.marks.ghost_name) }
+    ensures same { SameMemory table.old table.new }
     ensures settles { SettledWith M.measure (S.roster store.now) (S.book store.now) destination waiting numbers table.old.entries.now table.new.entries.now table.old.marks.now table.new.marks.now result }
 {
     let slot = Slot {
         place: 0,
         cost: M::start(),
     };
-    let mut slots = places(heap, waiting, slot)?;
-    let mut words = places(heap, numbers, 0)?;
+    let mut slots = vec![in heap; slot; waiting]?;
+    let mut words = vec![in heap; 0; numbers]?;
     let mut work = Work {
         waiting: slots.as_mut_slice(),
         numbers: words.as_mut_slice(),
@@ -90,7 +81,7 @@ pub fn send_with<S: Store, M: Measure>(
 ) -> Result<(Result<(M::Cost, usize), RouteRefusal>, Vec<u32>), AllocError>
     ensures { SentWith (sending M.measure (net_of (S.roster store.now) (S.book store.now)) table.now.entries.now table.now.marks.now source destination room) room result }
 {
-    let mut list = places(heap, room, 0)?;
+    let mut list = vec![in heap; 0; room]?;
     let answer = send::<S, M>(store, table, source, destination, list.as_mut_slice());
     Ok((answer, list))
 }

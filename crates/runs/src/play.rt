@@ -1,5 +1,6 @@
 // One call on a board.
 ghost use Rattle.std.specs.Prelude.{◌≡◌, ℕ, Some as SomeT, Option as OptionT};
+ghost use Rattle.table.specs.Memory.{SameMemory};
 ghost use Rattle.runs.specs.Plain.{board_of};
 ghost use Rattle.runs.specs.declared.types.Call.TheVariants.{Read as ReadT};
 ghost use Rattle.runs.specs.Runs.{Plays};
@@ -12,15 +13,15 @@ use routes::hop;
 use std::alloc::{AllocError, Global};
 use table::types::Table;
 
-// Makes a call that leaves the links as they are. Whatever plain board the store and the table memory stand for, the answer is the one that it
-// wants, and they stand for the plain board after the call then.
+// Makes a call that leaves the links as they are. Whatever plain board the store and the table memory stand for, the answer is the one
+// that it wants, and they stand for the plain board after the call then.
 pub fn play_read<S: Store, M: Measure>(
     heap: Global,
     store: &S,
     table: &mut Table<'_, '_, M::Cost>,
     call: ReadCall,
 ) -> Result<Reply<M::Cost>, AllocError>
-    ensures named { (table.new.entries.ghost_name ≡ table.old.entries.ghost_name) × (table.new.marks.ghost_name ≡ table.old.marks.ghost_name) }
+    ensures same { SameMemory table.old table.new }
     ensures plays { (limit : OptionT ℕ) → Plays M.measure (board_of (S.roster store.now) (S.book store.now) limit table.old) (board_of (S.roster store.now) (S.book store.now) limit table.new) (ReadT call) result }
 {
     match call {
@@ -58,7 +59,7 @@ pub fn play<S: EditableStore, M: Measure>(
     table: &mut Table<'_, '_, M::Cost>,
     call: Call,
 ) -> Result<Reply<M::Cost>, AllocError>
-    ensures named { (table.new.entries.ghost_name ≡ table.old.entries.ghost_name) × (table.new.marks.ghost_name ≡ table.old.marks.ghost_name) }
+    ensures same { SameMemory table.old table.new }
     ensures plays { Plays M.measure (board_of (S.Store.roster store.old) (S.Store.book store.old) (SomeT (S.limit store.old)) table.old) (board_of (S.Store.roster store.new) (S.Store.book store.new) (SomeT (S.limit store.new)) table.new) call result }
 {
     match call {

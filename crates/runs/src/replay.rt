@@ -1,5 +1,6 @@
 // A list of calls on a board, from its opening on.
-ghost use Rattle.std.specs.Prelude.{◌≡◌, map, Some as SomeT, None as NoneT};
+ghost use Rattle.std.specs.Prelude.{map, Some as SomeT, None as NoneT};
+ghost use Rattle.table.specs.Memory.{SameMemory};
 ghost use Rattle.runs.specs.declared.types.Call.TheVariants.{Read as ReadT};
 ghost use Rattle.runs.specs.Plain.{board_of};
 ghost use Rattle.runs.specs.Runs.{Replays};
@@ -19,7 +20,7 @@ pub fn replay<S: EditableStore, M: Measure>(
     table: &mut Table<'_, '_, M::Cost>,
     calls: &[Call],
 ) -> Result<Vec<Reply<M::Cost>>, RunRefusal>
-    ensures named { (table.new.entries.ghost_name ≡ table.old.entries.ghost_name) × (table.new.marks.ghost_name ≡ table.old.marks.ghost_name) }
+    ensures same { SameMemory table.old table.new }
     ensures replays { Replays M.measure (board_of (S.Store.roster store.old) (S.Store.book store.old) (SomeT (S.limit store.old)) table.old) (board_of (S.Store.roster store.new) (S.Store.book store.new) (SomeT (S.limit store.new)) table.new) calls.now result }
 {
     open(store, table)?;
@@ -32,13 +33,15 @@ pub fn replay<S: EditableStore, M: Measure>(
 }
 
 // The same over a store that is only read.
+// A loop of its own: one loop for both, given the function that plays a call, is longer, since what that promises is said again where
+// it is passed.
 pub fn replay_read<S: Store, M: Measure>(
     heap: Global,
     store: &S,
     table: &mut Table<'_, '_, M::Cost>,
     calls: &[ReadCall],
 ) -> Result<Vec<Reply<M::Cost>>, RunRefusal>
-    ensures named { (table.new.entries.ghost_name ≡ table.old.entries.ghost_name) × (table.new.marks.ghost_name ≡ table.old.marks.ghost_name) }
+    ensures same { SameMemory table.old table.new }
     ensures replays { Replays M.measure (board_of (S.roster store.now) (S.book store.now) NoneT table.old) (board_of (S.roster store.now) (S.book store.now) NoneT table.new) (map ReadT calls.now) result }
 {
     open(store, table)?;

@@ -8,7 +8,8 @@ use network::types::Figures;
 use std::alloc::{AllocError, AllocFailed};
 use table::types::RouteRefusal;
 
-// An edit of the links. The relation is what the first AS is to the second: 1 its provider, 2 its customer, 3 its peer.
+// An edit of the links. The relation is what the first AS is to the second: 1 its provider, 2 its customer, 3 its peer; it is a number,
+// since another one is refused (a rule).
 #[derive(Clone, Copy)]
 pub enum Edit {
     Link {
@@ -28,7 +29,8 @@ pub enum Edit {
     },
 }
 
-// A call that leaves the links as they are. `waiting` and `numbers` are the sizes of the work memory that it brings, and `room` that of its list.
+// A call that leaves the links as they are. `waiting` and `numbers` are the sizes of the work memory that it brings, and `room` that of
+// its list.
 #[derive(Clone, Copy)]
 pub enum ReadCall {
     Settle {
@@ -70,6 +72,7 @@ pub enum RunRefusal {
     OutOfMemory,
 }
 
+// By hand, here and below: a clause needs to know the variant, which a derived `From` does not tell.
 impl From<BoardRefusal> for RunRefusal {
     ghost from_gives = { λ x r. r ≡ BoardT x };
 

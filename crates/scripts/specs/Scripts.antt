@@ -1,5 +1,5 @@
 -- Scripts that are read, and what they come to. Assumes nothing.
-use Rattle.std.specs.Prelude.{◌≡◌, ℕ, true, [], Some, Ok, Err, vec_items, vec_len, Result, Vec, ◌≢◌}
+use Rattle.std.specs.Prelude.{◌≡◌, ℕ, true, [], map, Some, Ok, Err, vec_items, Result, Vec}
 use Rattle.std.specs.declared.alloc.Global.{Global}
 use Rattle.network.specs.Rosters.{is_roster, roster_from}
 use Rattle.measure.specs.Delay.{delay}
@@ -10,17 +10,9 @@ use Rattle.runs.specs.Plain.{Plain}
 use Rattle.runs.specs.Runs.{Run}
 use Rattle.scripts.specs.declared.types.Script.{Script}
 
--- each call has its line
-abbrev pub Paired : Script → Type 0
-Paired s = vec_len s.lines ≡ vec_len s.calls
-
--- there is no roster yet, or it is one of at most 24 ASes
-abbrev pub Begun : Script → Type 0
-Begun s = (vec_len s.roster ≢ 0) → is_roster 24 (vec_items s.roster) ≡ true
-
--- a script that is read whole
+-- a script that is read whole, its roster one of at most 24 ASes
 abbrev pub Whole : Script → Type 0
-Whole s = (is_roster 24 (vec_items s.roster) ≡ true) × Paired s
+Whole s = is_roster 24 (vec_items s.roster) ≡ true
 
 -- the plain board that a script starts from: its roster, if it is one, and no links
 abbrev pub bare : Script → Plain
@@ -28,7 +20,7 @@ bare s = record { roster = roster_from 24 (vec_items s.roster); book = []; limit
 
 -- each call is answered as it must be on the plain board that the calls before it left
 abbrev pub Answers : Script → Vec (Reply ℕ) Global → Type 0
-Answers s replies = (end : Plain) × Run delay (bare s) (vec_items s.calls) (vec_items replies) end
+Answers s replies = (end : Plain) × Run delay (bare s) (map (λ x. x.call) (vec_items s.calls)) (vec_items replies) end
 
 -- a run breaks off only where there is no memory for it
 abbrev pub Refused : Result (Vec (Reply ℕ) Global) RunRefusal → Type 0

@@ -1,28 +1,24 @@
 // Lines of a script: the roster and the calls.
+ghost use Rattle.std.specs.Prelude.{◌≤◌};
+
 use crate::types::FaultKind;
-use crate::words::{class, number, size};
+use crate::words::{number, size};
+use legality::types::Class;
 use network::types::Figures;
 use runs::types::{Call, Edit, ReadCall};
 use std::alloc::{AllocError, Global};
+use std::array::try_from_fn;
 
 // The words of a line.
 pub fn words_of<'a>(heap: Global, line: &'a str) -> Result<Vec<&'a str>, AllocError> {
-    let mut words = Vec::new(heap);
-    for word in line.split(' ') {
-        if !word.is_empty() {
-            words.push(word)?;
-        }
-    }
-    Ok(words)
+    line.split(' ')
+        .filter(|word| !word.is_empty())
+        .collect(heap)
 }
 
 // The numbers of a list of words.
 pub fn numbers_of(heap: Global, words: &[&str]) -> Result<Vec<u32>, FaultKind> {
-    let mut numbers = Vec::new(heap);
-    for word in words {
-        numbers.push(number(*word)?)?;
-    }
-    Ok(numbers)
+    words.iter().map(|word| number(*word)).try_collect(heap)
 }
 
 // What is wrong where so many words were wanted.
@@ -34,99 +30,96 @@ fn miscount(words: &[&str], wanted: usize) -> FaultKind {
     }
 }
 
+// The numbers of so many words.
+fn numbers<const N: usize>(words: &[&str]) -> Result<[u32; N], FaultKind> {
+    if words.len() != N {
+        return Err(miscount(words, N));
+    }
+    try_from_fn(|i| number(words[i]))
+}
+
 fn link_of(words: &[&str]) -> Result<Edit, FaultKind> {
-    let [first, second, relation, delay, width] = words else {
-        return Err(miscount(words, 5));
-    };
+    let [first, second, relation, delay, width] = numbers::<5>(words)?;
     Ok(Edit::Link {
-        first: number(*first)?,
-        second: number(*second)?,
-        relation: number(*relation)?,
-        figures: Figures {
-            delay: number(*delay)?,
-            width: number(*width)?,
-        },
+        first,
+        second,
+        relation,
+        figures: Figures { delay, width },
     })
 }
 
 fn recost_of(words: &[&str]) -> Result<Edit, FaultKind> {
-    let [first, second, delay, width] = words else {
-        return Err(miscount(words, 4));
-    };
+    let [first, second, delay, width] = numbers::<4>(words)?;
     Ok(Edit::Recost {
-        first: number(*first)?,
-        second: number(*second)?,
-        figures: Figures {
-            delay: number(*delay)?,
-            width: number(*width)?,
-        },
+        first,
+        second,
+        figures: Figures { delay, width },
     })
 }
 
 fn unlink_of(words: &[&str]) -> Result<Edit, FaultKind> {
-    let [first, second] = words else {
-        return Err(miscount(words, 2));
-    };
-    Ok(Edit::Unlink {
-        first: number(*first)?,
-        second: number(*second)?,
-    })
+    let [first, second] = numbers::<2>(words)?;
+    Ok(Edit::Unlink { first, second })
+}
+
+// The numbers of N words and the sizes of M further ones, which may all be left out: each of them is `usual` then.
+fn sized<const N: usize, const M: usize>(
+    words: &[&str],
+    usual: usize,
+) -> Result<([u32; N], [usize; M]), FaultKind>
+    requires { M ≤ 2 }
+{
+    let (front, sizes) = words.split_at(N.min(words.len()));
+    if sizes.is_empty() {
+        return Ok((numbers(front)?, [usual; M]));
+    }
+    if sizes.len() != M {
+        return Err(miscount(sizes, M));
+    }
+    Ok((numbers(front)?, try_from_fn(|i| size(sizes[i]))?))
 }
 
 // A settle; the work memory is as large as `count` ASes need where its sizes are left out.
 fn settle_of(words: &[&str], count: usize) -> Result<ReadCall, FaultKind> {
-    match words {
-        [destination] => Ok(ReadCall::Settle {
-            destination: number(*destination)?,
-            waiting: count.saturating_mul(2),
-            numbers: count.saturating_mul(2),
-        }),
-        [destination, waiting, numbers] => Ok(ReadCall::Settle {
-            destination: number(*destination)?,
-            waiting: size(*waiting)?,
-            numbers: size(*numbers)?,
-        }),
-        _ => Err(miscount(words, 3)),
-    }
+    let ([destination], [waiting, numbers]) = sized::<1, 2>(words, count.saturating_mul(2))?;
+    Ok(ReadCall::Settle {
+        destination,
+        waiting,
+        numbers,
+    })
 }
 
 fn hop_of(words: &[&str]) -> Result<ReadCall, FaultKind> {
-    let [source, entry, destination] = words else {
+    let [source, class, destination] = words else {
         return Err(miscount(words, 3));
     };
     Ok(ReadCall::Hop {
         source: number(*source)?,
-        class: class(*entry)?,
+        class: class.parse::<Class>()?,
         destination: number(*destination)?,
     })
 }
 
 // A send; the list has room for `count` ASes where its room is left out.
 fn send_of(words: &[&str], count: usize) -> Result<ReadCall, FaultKind> {
-    match words {
-        [source, destination] => Ok(ReadCall::Send {
-            source: number(*source)?,
-            destination: number(*destination)?,
-            room: count,
-        }),
-        [source, destination, room] => Ok(ReadCall::Send {
-            source: number(*source)?,
-            destination: number(*destination)?,
-            room: size(*room)?,
-        }),
-        _ => Err(miscount(words, 2)),
-    }
+    let ([source, destination], [room]) = sized::<2, 1>(words, count)?;
+    Ok(ReadCall::Send {
+        source,
+        destination,
+        room,
+    })
 }
 
 // The call that the first word names, with the other words, on a board of `count` ASes.
-pub fn call_of(name: &str, words: &[&str], count: usize) -> Result<Call, FaultKind> {
-    match name {
-        "link" => Ok(Call::Edit(link_of(words)?)),
-        "recost" => Ok(Call::Edit(recost_of(words)?)),
-        "unlink" => Ok(Call::Edit(unlink_of(words)?)),
-        "settle" => Ok(Call::Read(settle_of(words, count)?)),
-        "hop" => Ok(Call::Read(hop_of(words)?)),
-        "send" => Ok(Call::Read(send_of(words, count)?)),
+// A match over the first word, since each call has words of its own.
+pub fn call_of(words: &[&str], count: usize) -> Result<Call, FaultKind> {
+    match words {
+        ["link", words @ ..] => Ok(Call::Edit(link_of(words)?)),
+        ["recost", words @ ..] => Ok(Call::Edit(recost_of(words)?)),
+        ["unlink", words @ ..] => Ok(Call::Edit(unlink_of(words)?)),
+        ["settle", words @ ..] => Ok(Call::Read(settle_of(words, count)?)),
+        ["hop", words @ ..] => Ok(Call::Read(hop_of(words)?)),
+        ["send", words @ ..] => Ok(Call::Read(send_of(words, count)?)),
         _ => Err(FaultKind::UnknownWord),
     }
 }

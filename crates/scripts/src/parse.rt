@@ -1,49 +1,59 @@
 // Reading a script.
-ghost use Rattle.std.specs.Prelude.{◌≡◌, ◌≤◌, true, IfOk, MatchResult, OnOk};
-ghost use Rattle.network.specs.Rosters.{is_roster};
-ghost use Rattle.scripts.specs.Scripts.{Paired, Begun, Whole};
+ghost use Rattle.std.specs.Prelude.{◌≡◌, ◌≤◌, [], ◌∷◌, ◌++◌, IfOk, IfSome, MatchResult, OnOk};
+ghost use Rattle.scripts.specs.declared.types.ScriptCall.{ScriptCall as ScriptCallT};
+ghost use Rattle.scripts.specs.Scripts.{Whole};
 
 use crate::lines::{call_of, numbers_of, words_of};
-use crate::types::{FaultKind, Script, ScriptFault};
+use crate::types::{FaultKind, Script, ScriptCall, ScriptFault};
 use network::roster::check_roster;
 use std::alloc::Global;
 use std::str::from_utf8;
 use stores::grid::MOST_ASES;
 
-// The roster of a line.
-fn roster_of(heap: Global, name: &str, words: &[&str]) -> Result<Vec<u32>, FaultKind>
-    ensures { IfOk result (λ roster. is_roster 24 roster.items ≡ true) }
-{
-    if name != "roster" {
-        return Err(FaultKind::NoRoster);
+impl Script {
+    // Begins with the words of the roster's line.
+    fn begin(heap: Global, words: &[&str]) -> Result<Script, FaultKind>
+        ensures { IfOk result Whole }
+    {
+        let ["roster", numbers @ ..] = words else {
+            return Err(FaultKind::NoRoster);
+        };
+        let roster = numbers_of(heap, numbers)?;
+        check_roster(&roster, MOST_ASES)?;
+        Ok(Script {
+            roster,
+            calls: Vec::new(heap),
+        })
     }
-    let roster = numbers_of(heap, words)?;
-    match check_roster(&roster, MOST_ASES) {
-        Ok(()) => Ok(roster),
-        Err(_) => Err(FaultKind::BadRoster),
+
+    // Adds the call of a line's words.
+    fn add(&mut self, heap: Global, words: &[&str]) -> Result<(), FaultKind>
+        ensures same { OnOk result (self.new.roster ≡ self.old.roster) }
+        ensures adds { OnOk result ((x : ScriptCallT) × (self.new.calls.items ≡ self.old.calls.items ++ x ∷ [])) }
+    {
+        let call = call_of(words, self.roster.len())?;
+        let words = words.join(heap, " ")?;
+        self.calls.push(ScriptCall { call, words })?;
+        Ok(())
     }
 }
 
-// Adds what a line says to the script; its first line of words is the roster.
-fn read_line(heap: Global, script: &mut Script, line: &str) -> Result<(), FaultKind>
-    requires paired { Paired script.old }
-    requires begun { Begun script.old }
-    ensures { OnOk result (Paired script.new × Begun script.new) }
+// Reads a line: the first one of words begins the script, and each further one adds a call.
+fn read_line(heap: Global, script: &mut Option<Script>, line: &str) -> Result<(), FaultKind>
+    requires { IfSome script.old Whole }
+    ensures { OnOk result (IfSome script.new Whole) }
 {
     if line.starts_with('#') {
         return Ok(());
     }
     let words = words_of(heap, line)?;
-    let [name, others @ ..] = words.as_slice() else {
-        return Ok(());
-    };
-    if script.roster.is_empty() {
-        script.roster = roster_of(heap, *name, others)?;
+    if words.is_empty() {
         return Ok(());
     }
-    let call = call_of(*name, others, script.roster.len())?;
-    script.lines.push(words.as_slice().join(heap, " ")?)?;
-    script.calls.push(call)?;
+    match script {
+        None => *script = Some(Script::begin(heap, &words)?),
+        Some(script) => script.add(heap, &words)?,
+    }
     Ok(())
 }
 
@@ -51,36 +61,17 @@ fn read_line(heap: Global, script: &mut Script, line: &str) -> Result<(), FaultK
 fn parse_text(heap: Global, text: &str) -> Result<Script, ScriptFault>
     ensures { MatchResult result Whole (λ fault. 1 ≤ fault.line) }
 {
-    let mut script = Script {
-        roster: Vec::new(heap),
-        calls: Vec::new(heap),
-        lines: Vec::new(heap),
-    };
-    let mut line = 1usize;
-    for words in text.lines() {
-        if let Err(kind) = read_line(heap, &mut script, words) {
-            return Err(ScriptFault { line, kind });
-        }
-        line = line.saturating_add(1);
+    let mut script = None;
+    for (above, line) in text.lines().enumerate() {
+        read_line(heap, &mut script, line).map_err(|kind| kind.below(above))?;
     }
-    if script.roster.is_empty() {
-        let kind = FaultKind::NoRoster;
-        return Err(ScriptFault { line, kind });
-    }
-    Ok(script)
+    script.ok_or_else(|| FaultKind::NoRoster.below(text.lines().count()))
 }
 
-// The line in which a byte stands.
-fn line_at(bytes: &[u8], position: usize) -> usize
-    ensures { 1 ≤ result }
-{
-    let mut line = 1usize;
-    for byte in bytes.iter().take(position) {
-        if *byte == b'\n' {
-            line = line.saturating_add(1);
-        }
-    }
-    line
+// How many lines end before a byte.
+fn lines_above(bytes: &[u8], position: usize) -> usize {
+    let before = bytes.iter().take(position);
+    before.filter(|byte| **byte == b'\n').count()
 }
 
 // Reads a script whole; or the first thing that is wrong with it.
@@ -89,9 +80,6 @@ pub fn parse_script(heap: Global, bytes: &[u8]) -> Result<Script, ScriptFault>
 {
     match from_utf8(bytes) {
         Ok(text) => parse_text(heap, text),
-        Err(error) => Err(ScriptFault {
-            line: line_at(bytes, error.valid_up_to()),
-            kind: FaultKind::NotText,
-        }),
+        Err(error) => Err(FaultKind::NotText.below(lines_above(bytes, error.valid_up_to()))),
     }
 }

@@ -2,8 +2,6 @@
 ghost use Rattle.std.specs.Prelude.{◌≤◌, IfOk};
 
 use crate::types::FaultKind;
-use legality::types::Class;
-use std::num::IntErrorKind;
 
 // The largest size of memory that a call may bring.
 const MOST_SIZE: u32 = 1_000_000;
@@ -13,13 +11,7 @@ pub fn number(word: &str) -> Result<u32, FaultKind> {
     if word.starts_with('+') {
         return Err(FaultKind::NotANumber);
     }
-    match word.parse::<u32>() {
-        Ok(number) => Ok(number),
-        Err(error) => match error.kind() {
-            IntErrorKind::PosOverflow => Err(FaultKind::NumberTooLarge),
-            _ => Err(FaultKind::NotANumber),
-        },
-    }
+    Ok(word.parse::<u32>()?)
 }
 
 // A size of memory.
@@ -30,13 +22,5 @@ pub fn size(word: &str) -> Result<usize, FaultKind>
         Ok(count) if count <= MOST_SIZE => Ok(count as usize),
         Ok(_) | Err(FaultKind::NumberTooLarge) => Err(FaultKind::SizeTooLarge),
         Err(kind) => Err(kind),
-    }
-}
-
-pub fn class(word: &str) -> Result<Class, FaultKind> {
-    match word {
-        "home" => Ok(Class::Home),
-        "outside" => Ok(Class::Outside),
-        _ => Err(FaultKind::NotAClass),
     }
 }

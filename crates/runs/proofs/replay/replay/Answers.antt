@@ -1,6 +1,7 @@
-use Rattle.std.proofs.Common.{◌≡◌, ◌+◌, false, [], length, Some, refl, ◌∙◌}
+use Rattle.std.proofs.Common.{◌≡◌, ◌+◌, false, [], length, Some, refl}
 use Rattle.std.proofs.lemmas.Result.{err_from_is_err_and}
 use Rattle.table.specs.Memory.{small}
+use Rattle.table.proofs.Same.{still_same}
 use Rattle.runs.specs.Plain.{Board, board_of, fresh}
 use Rattle.runs.specs.Runs.{Ran}
 use Rattle.runs.proofs.Ran.{ran_none, made_more, broke_off, made_all}
@@ -19,40 +20,31 @@ opened : (g : given.Over) (c : In_ok-open g) →
 opened g c = let t = c.open.new.table in ran_none g.M.Measure.measure (before g c) t.entries.now t.marks.now c.in_ok-open.ensures.opens
 
 pub loop-call-init : goal.loop-call-init
-loop-call-init g c = (refl, refl, simp c.new-replies.ensures.items (opened g (goal.at.loop-call-init g c).In_ok-open).1)
+loop-call-init g c = (record { entries = refl; marks = refl }, simp c.new-replies.ensures.items (opened g (goal.at.loop-call-init g c).In_ok-open).1)
 
-pub returns-in_err-reply : goal.returns-in_err-reply
-returns-in_err-reply g c =
-    let o = c.in_ok-open.ensures.named in
+pub returns-in_err-reply-clause-replays : goal.returns-in_err-reply-clause-replays
+returns-in_err-reply-clause-replays g c =
     let i = c.loop-call.invariant in
     let q = c.in_err-reply.ensures in
-    let start = (goal.at.returns-in_err-reply g c).In_ok-open in
-    record {
-      named = (q.named.0 ∙ i.0 ∙ o.0, q.named.1 ∙ i.1 ∙ o.1);
-      replays = broke_off g.M.Measure.measure c.args.calls.now (before g start) c.loop-call.call-index (opened g start).0 i.2 q.plays.1 (err_from_is_err_and c.from_residual-in_err-reply.result c.from_residual-in_err-reply.ensures.1);
-    }
+    let start = (goal.at.returns-in_err-reply-clause-replays g c).In_ok-open in
+    broke_off g.M.Measure.measure c.args.calls.now (before g start) c.loop-call.call-index (opened g start).0 i.1 q.plays.1 (err_from_is_err_and c.from_residual-in_err-reply.result c.from_residual-in_err-reply.ensures.1)
 
-pub returns-in_err-push : goal.returns-in_err-push
-returns-in_err-push g c =
+pub returns-in_err-push-clause-replays : goal.returns-in_err-push-clause-replays
+returns-in_err-push-clause-replays g c =
     let m = g.M.Measure.measure in
-    let o = c.in_ok-open.ensures.named in
     let i = c.loop-call.invariant in
     let q = c.in_ok-reply.ensures in
-    let start = (goal.at.returns-in_err-push g c).In_ok-open in
-    record {
-      named = (q.named.0 ∙ i.0 ∙ o.0, q.named.1 ∙ i.1 ∙ o.1);
-      replays = broke_off m c.args.calls.now (before g start) (c.loop-call.call-index + 1) (opened g start).0 (made_more m c.args.calls.now _ c.loop-call-test.true i.2 q.plays) refl (err_from_is_err_and c.from_residual-in_err-push.result c.from_residual-in_err-push.ensures.1);
-    }
+    let start = (goal.at.returns-in_err-push-clause-replays g c).In_ok-open in
+    broke_off m c.args.calls.now (before g start) (c.loop-call.call-index + 1) (opened g start).0 (made_more m c.args.calls.now _ c.loop-call-test.true i.1 q.plays) refl (err_from_is_err_and c.from_residual-in_err-push.result c.from_residual-in_err-push.ensures.1)
 
 pub loop-call-preserved : goal.loop-call-preserved
 loop-call-preserved g c =
     let i = c.loop-call.invariant in
     let q = c.in_ok-reply.ensures in
-    (q.named.0 ∙ i.0, q.named.1 ∙ i.1, simp c.in_ok-push.ensures.items (made_more g.M.Measure.measure c.args.calls.now _ c.loop-call-test.true i.2 q.plays))
+    (still_same i.0 q.same, simp c.in_ok-push.ensures.items (made_more g.M.Measure.measure c.args.calls.now _ c.loop-call-test.true i.1 q.plays))
 
-pub returns : goal.returns
-returns g c =
-    let o = c.in_ok-open.ensures.named in
+pub returns-clause-replays : goal.returns-clause-replays
+returns-clause-replays g c =
     let i = c.loop-call.invariant in
-    let start = (goal.at.returns g c).In_ok-open in
-    record { named = (i.0 ∙ o.0, i.1 ∙ o.1); replays = made_all g.M.Measure.measure c.args.calls.now (before g start) c.loop-call.replies (opened g start).0 c.loop-call-test.false i.2 }
+    let start = (goal.at.returns-clause-replays g c).In_ok-open in
+    made_all g.M.Measure.measure c.args.calls.now (before g start) c.loop-call.replies (opened g start).0 c.loop-call-test.false i.1

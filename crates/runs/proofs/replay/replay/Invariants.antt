@@ -1,4 +1,5 @@
-use Rattle.std.proofs.Common.{◌≡◌, take, Some, vec_items}
+use Rattle.std.proofs.Common.{take, Some, vec_items}
+use Rattle.table.specs.Memory.{SameMemory}
 use Rattle.runs.specs.Plain.{board_of, fresh}
 use Rattle.runs.specs.Runs.{Ran}
 use Rattle.runs.proofs.replay.replay.Given as goal
@@ -6,7 +7,6 @@ use Rattle.runs.proofs.replay.replay.Given as goal
 -- the calls so far were made
 abbrev pub invariant-loop-call : goal.invariant-loop-call
 invariant-loop-call g l =
-    (l.table.entries.ghost_name ≡ l.initial.table.entries.ghost_name) ×
-    (l.table.marks.ghost_name ≡ l.initial.table.marks.ghost_name) ×
+    SameMemory l.initial.table l.table ×
     Ran g.M.Measure.measure (fresh (board_of (g.S.Store.roster l.initial.store) (g.S.Store.book l.initial.store) (Some (g.S.EditableStore.limit l.initial.store)) l.initial.table))
     (board_of (g.S.Store.roster l.store) (g.S.Store.book l.store) (Some (g.S.EditableStore.limit l.store)) l.table) (take l.call-index l.calls) (vec_items l.replies)

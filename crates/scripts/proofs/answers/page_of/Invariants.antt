@@ -1,6 +1,8 @@
-use Rattle.std.proofs.Common.{◌≡◌, ◌++◌, drop, string_bytes}
-use Rattle.scripts.specs.Texts.{page}
+use Rattle.std.proofs.Common.{◌≡◌, length, take, string_bytes}
+use Rattle.std.specs.List.{flat_map, zip}
+use Rattle.scripts.specs.Texts.{answer_line}
 use Rattle.scripts.proofs.answers.page_of.Given as goal
 
-abbrev pub invariant-loop-i : goal.invariant-loop-i
-invariant-loop-i l = string_bytes l.text ++ page (drop l.i l.calls) (drop l.i l.replies) ≡ page l.calls l.replies
+abbrev pub invariant-loop-call : goal.invariant-loop-call
+invariant-loop-call g l =
+    string_bytes l.text ≡ flat_map (λ x. answer_line (g.T.AsStr.text x.0) x.1) (take (length l.yielded) (zip l.calls l.replies))

@@ -1,11 +1,7 @@
-use Rattle.std.proofs.Common.{◌≤◌}
-use Rattle.scripts.specs.Scripts.{Paired, Begun}
+use Rattle.std.proofs.Common.{IfSome}
+use Rattle.scripts.specs.Scripts.{Whole}
 use Rattle.scripts.proofs.parse.parse_text.Given as goal
 
-abbrev pub invariant-loop-words : goal.invariant-loop-words
-invariant-loop-words l =
-    (goal.iterator-loop-words).can_next l.words-iterator ×
-    (goal.iterator-loop-words).is_finite l.words-iterator ×
-    Paired l.script ×
-    Begun l.script ×
-    (1 ≤ l.line)
+abbrev pub invariant-loop-above : goal.invariant-loop-above
+invariant-loop-above l =
+    (goal.iterator-loop-above).can_next l.above-iterator × (goal.iterator-loop-above).is_finite l.above-iterator × IfSome l.script Whole

@@ -1,4 +1,4 @@
-use Rattle.std.proofs.Common.{◌≡◌, ℕ, ◌*◌, ◌≤◌, Bool, true, false, cond, ◌||◌, ltb, List, [], length, replicate, IfOk, Some, Ok, Err, vec_items, Result, Vec, sym, refl, ap, ◌∙◌, subst, mul-le-mul, arith}
+use Rattle.std.proofs.Common.{◌≡◌, ℕ, ◌*◌, ◌≤◌, Bool, true, false, cond, ◌||◌, ltb, List, [], map, length, replicate, IfOk, Some, Ok, Err, vec_items, Result, Vec, sym, refl, ap, ◌∙◌, subst, mul-le-mul, arith}
 use Rattle.std.specs.declared.alloc.Global.{Global}
 use Rattle.std.proofs.lemmas.Bool.{and_parts, leb-true, or_from, le-ltb}
 use Rattle.network.specs.declared.types.Link.{Link}
@@ -7,6 +7,7 @@ use Rattle.stores.specs.Grid.{grid_roster, grid_book}
 use Rattle.measure.specs.Delay.{delay}
 use Rattle.table.specs.declared.types.Entry.{Entry}
 use Rattle.table.specs.Memory.{small}
+use Rattle.runs.specs.declared.types.Call.{Call}
 use Rattle.runs.specs.declared.types.Reply.{Reply}
 use Rattle.runs.specs.declared.types.RunRefusal.{RunRefusal}
 use Rattle.runs.specs.declared.types.RunRefusal.TheVariants.{Board as NotOpened, OutOfMemory}
@@ -31,19 +32,19 @@ opens : (ases roster : List ℕ) → roster ≡ roster_from 24 ases → (ltb 115
 opens ases roster e = ap (λ xs. ltb 1152 (2 * length xs * length xs) || ltb 24 (length xs)) e ∙ enough (length (roster_from 24 ases)) (few_of ases (is_roster 24 ases) refl)
 
 -- what a run from a board without links came to
-came : (s : Script) (roster : List ℕ) (book : List Link) (entries : List (Entry ℕ)) (marks : List ℕ) (b' : Board ℕ) (r : Result (Vec (Reply ℕ) Global) RunRefusal) →
-    roster ≡ roster_from 24 (vec_items s.roster) → book ≡ [] → length entries ≡ 1152 → length marks ≡ 24 →
-    Replays delay (record { roster = roster; book = book; limit = Some 276; entries = entries; marks = marks }) b' (vec_items s.calls) r →
+came : (s : Script) (calls : List Call) (roster : List ℕ) (book : List Link) (entries : List (Entry ℕ)) (marks : List ℕ) (b' : Board ℕ) (r : Result (Vec (Reply ℕ) Global) RunRefusal) →
+    calls ≡ map (λ x. x.call) (vec_items s.calls) → roster ≡ roster_from 24 (vec_items s.roster) → book ≡ [] → length entries ≡ 1152 → length marks ≡ 24 →
+    Replays delay (record { roster = roster; book = book; limit = Some 276; entries = entries; marks = marks }) b' calls r →
     (IfOk r (λ replies. Answers s replies)) × Refused r
-came s roster book entries marks b' (Ok replies) e f g h told =
-    let P : List ℕ → List Link → Type 0 = λ xs links. Run delay (record { roster = xs; book = links; limit = Some 276; settled = [] }) (vec_items s.calls) (vec_items replies) told.1.end in
-    ((told.1.end, subst (P (bare s).roster) f (subst (λ xs. P xs book) e told.1.run)), tt)
-came s roster book entries marks b' (Err (NotOpened x)) e f g h told =
+came s calls roster book entries marks b' (Ok replies) d e f g h told =
+    let P : List Call → List ℕ → List Link → Type 0 = λ cs xs links. Run delay (record { roster = xs; book = links; limit = Some 276; settled = [] }) cs (vec_items replies) told.1.end in
+    ((told.1.end, subst (λ cs. P cs (bare s).roster []) d (subst (P calls (bare s).roster) f (subst (λ xs. P calls xs book) e told.1.run))), tt)
+came s calls roster book entries marks b' (Err (NotOpened x)) d e f g h told =
     let n = length roster in
     let sizes : small n entries marks ≡ (ltb 1152 (2 * n * n) || ltb 24 n) = rw (g, h) in
     let never : true ≡ false = sym told.0 ∙ (sizes ∙ opens (vec_items s.roster) roster e) in
     (tt, cc)
-came s roster book entries marks b' (Err OutOfMemory) e f g h told = (tt, refl)
+came s calls roster book entries marks b' (Err OutOfMemory) d e f g h told = (tt, refl)
 
 pub returns : goal.returns
 returns c =
@@ -51,6 +52,6 @@ returns c =
     let store = c.replay.new.store in
     let after = board_of (grid_roster store) (grid_book store) (Some 276) c.replay.new.table in
     let ases = c.new-store.ensures.roster ∙ ap (roster_from 24) c.deref.ensures.value in
-    let told = rw c.deref-2.ensures.value at c.replay.ensures.replays in
-    let both = came s _ _ (replicate 1152 (record { next = 65535; cost = 0 })) (replicate 24 0) after c.replay.result ases c.new-store.ensures.book refl refl told in
+    let calls = c.deref-2.ensures.value ∙ c.in_ok-calls.ensures in
+    let both = came s _ _ _ (replicate 1152 c.blank-entries.result) (replicate 24 0) after c.replay.result calls ases c.new-store.ensures.book refl refl c.replay.ensures.replays in
     record { answers = both.0; refused = both.1 }
