@@ -1,4 +1,4 @@
-// A board: one store of links and one table memory, handed to each call.
+// A board: one store of links and one table memory, handed to each call (a rule).
 #![tactic(auto)]
 
 pub mod edits;

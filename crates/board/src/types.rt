@@ -40,6 +40,7 @@ impl fmt::Display for BoardRefusal {
 
 impl Error for BoardRefusal {}
 
+// By hand: a clause needs to know the variant, which a derived `From` does not tell.
 impl From<EditRefusal> for BoardRefusal {
     ghost from_gives = { λ x r. r ≡ EditT x };
 

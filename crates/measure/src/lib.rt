@@ -10,7 +10,8 @@ use network::types::Figures;
 pub mod delay;
 pub mod hops_width;
 
-// A measure tells what no link costs, what one more link in front makes of a cost, which cost is less, and which costs are in range.
+// A measure tells what no link costs, what one more link in front makes of a cost, which cost is less, and which costs are in range. Two
+// costs that are compared are two arguments, and two measures two impls: a struct or a macro would only wrap them.
 pub trait Measure {
     type Cost: Copy;
 

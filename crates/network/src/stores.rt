@@ -41,7 +41,8 @@ pub trait Store {
 
 // A store that also takes edits of its book. Two ASes are named in order, the first looked up before the second (a struct of both
 // would only wrap them). The relation is what the first is to the second: 1 its provider, 2 its customer, 3 its peer; it is a number,
-// since link is asked to refuse another one (a rule).
+// since link is asked to refuse another one (a rule). Each store has the same signatures, and refuses in the same order before it does what
+// its own memory needs: shared code would take all of these as parameters again.
 pub trait EditableStore: Store {
     ghost limit: { Self → ℕ };
 

@@ -17,7 +17,8 @@ use network::stores::Store;
 use table::types::{RouteRefusal, Table};
 
 // The column of the destination, and the stop at which the way to it starts. Each AS is looked up by a `let .. else` that refuses it
-// (a rule).
+// (a rule). Source and destination are two numbers, of which a refusal names one: a struct would only wrap them. Store and table are handed
+// to each call (a rule).
 #[tactic(auto, using(crate::proofs::Known::place_known, crate::proofs::Known::place_within, table::proofs::Cells::not_small))]
 fn set_out<'a, S: Store, M: Measure>(
     store: &'a S,

@@ -14,7 +14,8 @@ use std::alloc::{AllocError, Global};
 use table::types::Table;
 
 // Makes a call that leaves the links as they are. Whatever plain board the store and the table memory stand for, the answer is the one
-// that it wants, and they stand for the plain board after the call then.
+// that it wants, and they stand for the plain board after the call then. A `match`, here and in `play`, since a call is a record that the
+// plain board judges.
 pub fn play_read<S: Store, M: Measure>(
     heap: Global,
     store: &S,

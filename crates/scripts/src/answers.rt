@@ -31,6 +31,7 @@ struct Answer<'a> {
     reply: &'a Reply<u32>,
 }
 
+// A `match`, since each answer has words of its own.
 impl fmt::Display for Answer<'_> {
     ghost output = { λ answer. SomeT (reply_text answer.reply.now) };
 

@@ -1,4 +1,4 @@
-// Scripts that are refused.
+// Scripts that are refused; a line for each, in two tests, so that a failure names its kind.
 use crate::parse::parse_script;
 use crate::types::*;
 

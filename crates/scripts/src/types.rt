@@ -92,6 +92,7 @@ impl fmt::Display for FaultKind {
     }
 }
 
+// By hand, here and below: a clause needs to know the variant, which a derived `From` does not tell.
 impl From<AllocError> for FaultKind {
     ghost from_gives = { λ _ r. r ≡ OutOfMemoryT };
 

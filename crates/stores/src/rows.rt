@@ -96,6 +96,8 @@ impl<'a, 'b> EditableStore for RowStore<'a, 'b> {
         self.rows.len().min(MOST_LINKS)
     }
 
+    // That the memory is the one lent stands here and in the two calls below: it relates what was before a call to what is after it, which
+    // no field can.
     fn link(
         &mut self,
         first: u32,

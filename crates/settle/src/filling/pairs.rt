@@ -6,7 +6,8 @@ use legality::types::Class;
 use table::class_number;
 use waiting::types::Slot;
 
-// Where the entry of the AS at `spot` stands, for a class.
+// Where the entry of the AS at `spot` stands, for a class. The two are passed as two words, since an offer goes to one place in both
+// classes.
 // This function is here and not in the crate `table`, since a public function asks nothing of its callers.
 pub fn entry_place(spot: usize, class: Class) -> usize
     requires { pair spot class < 1024 }

@@ -1,4 +1,5 @@
-// A column, before its pairs are taken and after.
+// A column, before its pairs are taken and after. That it is the same column stands in each contract by one word: it relates before and
+// after, which no field can.
 ghost use Rattle.std.specs.Prelude.{◌≡◌, ℕ, ◌+◌, ◌<◌, ◌≤◌, length, Some, None, slice_index_or, slice_set};
 ghost use Rattle.waiting.specs.Calls.{Sets};
 ghost use Rattle.waiting.specs.Lists.{held, room};
