@@ -81,14 +81,9 @@ impl<'a> Iterator for CaseFile<'a> {
     }
 }
 
-// Runs `run` on each case of standard input in order, until it answers an error.
-pub fn run_cases<F: FnMut(Case<'_>) -> anyhow::Result<()>>(
-    rt: &HostRuntime,
-    run: F,
-) -> anyhow::Result<()>
-    requires { F.IsAlwaysCallable run }
-{
+// The whole of standard input.
+pub fn read_input(rt: &HostRuntime) -> io::Result<Vec<u8>> {
     let mut bytes = Vec::new(rt.alloc());
     rt.stdin().read_to_end(&mut bytes)?;
-    CaseFile::new(&bytes).try_for_each(run)
+    Ok(bytes)
 }

@@ -1,7 +1,7 @@
 // Many link lists at once, for the lister's library functions: what is printed is each case's name and what the lister prints of it.
 #![tactic(auto)]
 
-use cases::{Case, run_cases};
+use cases::{Case, CaseFile, read_input};
 use listing::{list_routes, print_listing};
 
 fn run_list(rt: &HostRuntime, case: Case<'_>) -> anyhow::Result<()> {
@@ -13,5 +13,9 @@ fn run_list(rt: &HostRuntime, case: Case<'_>) -> anyhow::Result<()> {
 }
 
 fn main(rt: HostRuntime) -> anyhow::Result<()> {
-    run_cases(&rt, |case| run_list(&rt, case))
+    let bytes = read_input(&rt)?;
+    for case in CaseFile::new(&bytes) {
+        run_list(&rt, case)?;
+    }
+    Ok(())
 }

@@ -1,7 +1,7 @@
 // Settled tables of many link lists at both measures: for each destination settle's answer, and each entry of its column.
 #![tactic(auto)]
 
-use cases::{Case, run_cases};
+use cases::{Case, CaseFile, read_input};
 use legality::types::Class;
 use link_list::load::load;
 use link_text::reader::Reader;
@@ -125,5 +125,9 @@ fn run_list(rt: &HostRuntime, case: Case<'_>) -> anyhow::Result<()> {
 }
 
 fn main(rt: HostRuntime) -> anyhow::Result<()> {
-    run_cases(&rt, |case| run_list(&rt, case))
+    let bytes = read_input(&rt)?;
+    for case in CaseFile::new(&bytes) {
+        run_list(&rt, case)?;
+    }
+    Ok(())
 }
