@@ -126,6 +126,7 @@ fn run_list(rt: &HostRuntime, case: Case<'_>) -> anyhow::Result<()> {
 
 fn main(rt: HostRuntime) -> anyhow::Result<()> {
     let bytes = read_input(&rt)?;
+    // A loop in each case program: a public function that ran a closure here would ask its callers that it may be called.
     for case in CaseFile::new(&bytes) {
         run_list(&rt, case)?;
     }
