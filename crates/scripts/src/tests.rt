@@ -37,6 +37,15 @@ fn calls(rt: HostRuntime) {
         at(2, FaultKind::NotANumber)
     );
     assert_eq!(rt;
+        fault_in(&rt, b"roster 1\nsend 1 x\n"),
+        at(2, FaultKind::NotANumber)
+    );
+    assert_eq!(rt;
+        fault_in(&rt, b"roster 1\nsend 1 4294967296\n"),
+        at(2, FaultKind::NumberTooLarge)
+    );
+    assert_eq!(rt; fault_in(&rt, b"roster 1\nsend 1 1 1000000\n"), None);
+    assert_eq!(rt;
         fault_in(&rt, b"roster 1\nsend 1 1 1000001\n"),
         at(2, FaultKind::SizeTooLarge)
     );
