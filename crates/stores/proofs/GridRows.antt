@@ -1,13 +1,16 @@
 -- The rows of a grid store, and the cells of all of them. Assumes nothing.
-use Rattle.std.proofs.Common.{◌≡◌, ℕ, zero, suc, ◌+◌, ◌-◌, ◌*◌, ◌<◌, ◌≤◌, List, [], ◌∷◌, ◌++◌, length, get_or, drop, set, Some, None, Option, sym, refl, ap, ◌∙◌, arith}
-use Rattle.std.specs.List.{flat_map, sum_by}
-use Rattle.std.specs.Option.{option_to_list}
-use Rattle.std.proofs.lemmas.List.{length-append, get_or_append_left, get_or-append-add, set-append_left, set-append_right, drop_more}
+use Rattle.std.proofs.Common.{◌≡◌, ℕ, true, zero, suc, ◌+◌, ◌-◌, ◌*◌, ◌<◌, ◌≤◌, List, [], ◌∷◌, ◌++◌, length, get_or, drop, set, replicate, Some, None, Option, sym, refl, ap, subst, ◌∙◌, arith}
+use Rattle.std.specs.List.{flat_map, sum_by, filter, slice_get}
+use Rattle.std.specs.Int.{from_bool}
+use Rattle.std.specs.Option.{option_to_list, option_flatten, is_some}
+use Rattle.std.proofs.lemmas.List.{length-append, get_or_append_left, get_or-append-add, set-append_left, set-append_right, drop_more, replicate-append-replicate}
 use Rattle.std.proofs.lemmas.List.Concat.{flat_map-append}
 use Rattle.std.proofs.lemmas.List.Sums.{sum_by-cons}
 use Rattle.network.specs.declared.types.Link.{Link}
 use Rattle.stores.specs.declared.grid.rows.GridRow.{GridRow}
-use Rattle.stores.specs.Cells.{filled}
+use Rattle.stores.specs.declared.grid.cells.GridStore.{GridStore}
+use Rattle.stores.specs.Cells.{filled, fit}
+use Rattle.stores.specs.CellsLemmas.{fit_empty, filled_empty, fit_at}
 
 abbrev pub cells_in : List GridRow → List (Option Link)
 cells_in rows = flat_map (λ r. r.cells) rows
@@ -15,6 +18,24 @@ cells_in rows = flat_map (λ r. r.cells) rows
 pub cells_length : (rows : List GridRow) → length (cells_in rows) ≡ 24 * length rows
 cells_length [] = refl
 cells_length (r ∷ rows) = omega (arith, length-append r.cells (cells_in rows), cells_length rows, r.sized)
+
+-- the cells of rows without links
+bare_cells : (rows : List GridRow) → ((i : ℕ) (d : GridRow) → i < length rows → (get_or rows i d).cells ≡ replicate 24 None) → cells_in rows ≡ replicate (24 * length rows) None
+bare_cells [] h = refl
+bare_cells (r ∷ rows) h =
+    let more : 24 + 24 * length rows ≡ 24 * suc (length rows) = omega arith in
+    ap (λ cs. cs ++ cells_in rows) (h 0 r (omega arith)) ∙
+    ap (λ cs. replicate 24 None ++ cs) (bare_cells rows (λ i d k. h (suc i) d (omega (arith, k)))) ∙
+    replicate-append-replicate 24 (24 * length rows) None ∙
+    ap (λ n. replicate n None) more
+
+-- .. fit any roster, and there is no link in them
+module _ (rows : List GridRow) (h : (i : ℕ) (d : GridRow) → i < length rows → (get_or rows i d).cells ≡ replicate 24 None) where
+  pub bare_fit : (roster : List ℕ) → fit roster 0 (cells_in rows) ≡ true
+  bare_fit roster = subst (λ cells. fit roster 0 cells ≡ true) (sym (bare_cells rows h)) (fit_empty roster 0 (24 * length rows))
+
+  pub bare_filled : filled (cells_in rows) ≡ []
+  bare_filled = ap filled (bare_cells rows h) ∙ filled_empty (24 * length rows)
 
 -- the cell j of the row i
 pub cell_read : (rows : List GridRow) (i j : ℕ) (d : GridRow) → i < length rows → j < 24 → get_or (cells_in rows) (24 * i + j) None ≡ get_or (get_or rows i d).cells j None
@@ -51,3 +72,44 @@ pub filled_length : (cells : List (Option Link)) → length (filled cells) ≤ l
 filled_length [] = omega arith
 filled_length (None ∷ cells) = omega (arith, filled_length cells)
 filled_length (Some l ∷ cells) = omega (arith, filled_length cells)
+
+-- a write to a cell: the links that there are, by what comes and what goes
+pub filled_written : (cells : List (Option Link)) (i : ℕ) (v : Option Link) → i < length cells → length (filled (set cells i v)) + from_bool (is_some (get_or cells i None)) ≡ length (filled cells) + from_bool (is_some v)
+filled_written [] i v h = absurd (omega arith)
+filled_written (None ∷ cells) zero None h = refl
+filled_written (None ∷ cells) zero (Some l) h = omega arith
+filled_written (Some x ∷ cells) zero None h = omega arith
+filled_written (Some x ∷ cells) zero (Some l) h = refl
+filled_written (None ∷ cells) (suc i) v h = filled_written cells i v (omega arith)
+filled_written (Some x ∷ cells) (suc i) v h = omega (arith, filled_written cells i v (omega arith))
+
+-- a cell holds one link or none
+pub held_few : (v : Option Link) → from_bool (is_some v) ≤ 1
+held_few None = omega arith
+held_few (Some l) = omega arith
+
+-- the cells that hold a link, and the links in them: in the same order
+pub held_get : (cells : List (Option Link)) (spot : ℕ) → option_flatten (slice_get (filter is_some cells) spot) ≡ slice_get (filled cells) spot
+held_get [] spot = refl
+held_get (None ∷ cells) spot = held_get cells spot
+held_get (Some l ∷ cells) zero = refl
+held_get (Some l ∷ cells) (suc spot) = held_get cells spot
+
+-- no cell before the cell n holds a link
+pub filled_past : (cells : List (Option Link)) (n : ℕ) → ((j : ℕ) → j < n → get_or cells j None ≡ None) → filled (drop n cells) ≡ filled cells
+filled_past cells zero h = refl
+filled_past [] (suc n) h = refl
+filled_past (None ∷ cells) (suc n) h = filled_past cells n (λ j k. h (suc j) (omega (arith, k)))
+filled_past (Some l ∷ cells) (suc n) h = let first = h 0 (omega arith) in let z : ◌≡◌ {A = ℕ} 0 1 = cc in absurd (omega arith)
+
+-- the links of the row i stand in the cells after the cell i
+pub row_past : (s : GridStore) (i : ℕ) (d : GridRow) → i < 24 → filled (drop (i + 1) (get_or s.rows i d).cells) ≡ filled (get_or s.rows i d).cells
+row_past s i d h = filled_past (get_or s.rows i d).cells (i + 1) (λ j k. bare j k (get_or (get_or s.rows i d).cells j None) refl)
+  where
+    bare : (j : ℕ) → j < i + 1 → (v : Option Link) → get_or (get_or s.rows i d).cells j None ≡ v → v ≡ None
+    bare j k None e = refl
+    bare j k (Some l) e =
+        let n = s.sized in
+        let p = fit_at s.ases.items s.rising 0 (24 * i + j) (24 * i + j) (cells_in s.rows) l (omega arith) s.placed (cell_read s.rows i j d (omega arith) (omega arith) ∙ e) in
+        let o = p.ordered in
+        absurd (omega arith)

@@ -1,9 +1,9 @@
 -- The cells of a grid store as a book. Assumes nothing.
-use Rattle.std.specs.Prelude.{◌≡◌, ℕ, zero, suc, ◌+◌, ◌/◌, ◌%◌, ◌<◌, ◌≤◌, true, false, ◌&&◌, List, [], ◌∷◌, ◌++◌, length, take, drop, set, Some, None, Option, slice_index, slice_index_or, slice_set, refl}
+use Rattle.std.specs.Prelude.{◌≡◌, ℕ, zero, suc, ◌+◌, ◌/◌, ◌%◌, ◌<◌, ◌≤◌, true, false, ◌&&◌, List, [], ◌∷◌, ◌++◌, length, take, drop, set, replicate, Some, None, Option, slice_index, slice_index_or, slice_set, refl}
 use Rattle.std.proofs.Common.{sym, ap, subst, ◌∙◌, inl, inr, ⊎_elim, arith}
 use Rattle.std.specs.List.{AllByRecursion}
 use Rattle.std.specs.Option.{option_to_list}
-use Rattle.std.proofs.lemmas.List.{set_split, set-get_or}
+use Rattle.std.proofs.lemmas.List.{length-take, set_split, set-get_or, drop_more}
 use Rattle.std.proofs.lemmas.List.Concat.{flat_map-append}
 use Rattle.std.proofs.ByRecursion.{All-weaker}
 use Rattle.std.proofs.lemmas.Bool.{and_from, and_parts, cases_lt, ltb-true, lt-ltb, leb-true, eqb-true, eq-eqb}
@@ -16,6 +16,17 @@ use Rattle.network.specs.Sound.{Proper, InOrder}
 use Rattle.network.proofs.Rising.{stands_among, rising as rises}
 use Rattle.network.proofs.Books.{Earlier, earlier_before, earlier_not_before, Apart, joined, apart_earlier, apart_later, added_between, find_past, find_none, find_here, recosted_here, without_here}
 use Rattle.stores.specs.Cells.{filled, fits_cell, fit}
+
+pub filled_append : (xs ys : List (Option Link)) → filled (xs ++ ys) ≡ filled xs ++ filled ys
+filled_append xs ys = flat_map-append option_to_list xs ys
+
+pub filled_empty : (n : ℕ) → filled (replicate n None) ≡ []
+filled_empty zero = refl
+filled_empty (suc n) = filled_empty n
+
+pub fit_empty : (roster : List ℕ) (k n : ℕ) → fit roster k (replicate n None) ≡ true
+fit_empty roster k zero = refl
+fit_empty roster k (suc n) = fit_empty roster (suc k) n
 
 -- the pair of the ASes whose cell is k, if they were in any order
 pub record Pair (roster : List ℕ) (k low high : ℕ) : Type 0 where
@@ -199,6 +210,10 @@ module _ (roster : List ℕ) (rising : climbs 0 roster ≡ true) where
       book_set cells fitting n low high within pair (Some new) ∙
       sym (ap (λ b. added b new) (book_at cells fitting n low high within pair None e) ∙ added_between fore rest new sooner past)
 
+-- the links that are left from the cell i on
+pub filled_drop : (cells : List (Option Link)) (i : ℕ) (v : Option Link) → i < length cells → slice_index_or cells i None ≡ v → filled (drop i cells) ≡ filled (v ∷ drop (i + 1) cells)
+filled_drop cells i v h e = ap filled (drop_more cells i None h ∙ ap (λ c. c ∷ drop (i + 1) cells) e)
+
 -- a link of the pair of the cell k, with figures in their limits, fits it
 pub fits_from : (roster : List ℕ) (k low high : ℕ) (l : Link) → k / 24 < k % 24 → Pair roster k low high → l.low ≡ low → l.high ≡ high → (in_limits l.figures.delay && in_limits l.figures.width) ≡ true → fits_cell roster k l ≡ true
 fits_from roster k low high l o p x y f =
@@ -210,3 +225,7 @@ fits_from roster k low high l o p x y f =
 -- at most 24 ASes are at most 512
 pub few : (ases : List ℕ) → length ases ≤ 24 → length ases ≤ 512
 few ases h = omega arith
+
+-- the ASes in the first 24 places, or in fewer, are at most 512
+pub few_taken : (n : ℕ) (ases : List ℕ) → n ≤ 24 → length (take n ases) ≤ 512
+few_taken n ases h = omega (arith, length-take n ases)

@@ -13,13 +13,14 @@ use crate::rosters::{place_in, roster_of};
 use arrayvec::ArrayVec;
 use network::stores::{EditableStore, Store};
 use network::types::{EditRefusal, Figures, Link, Relation};
+use std::array::from_fn;
 
 mod cells;
 mod rows;
 
 use cells::Cell;
 pub use cells::{GridStore, MOST_ASES};
-use rows::GridRow;
+use rows::BARE;
 
 // The most links of a grid store: as many as 24 ASes have pairs.
 pub const MOST_LINKS: usize = 276;
@@ -44,10 +45,7 @@ impl GridStore {
     {
         GridStore {
             ases: ArrayVec::try_from(roster_of(ases, MOST_ASES)).unwrap_or_default(),
-            rows: [GridRow {
-                cells: [None; MOST_ASES],
-                tally: 0,
-            }; MOST_ASES],
+            rows: from_fn(|_| BARE),
         }
     }
 
@@ -109,9 +107,10 @@ impl Store for GridStore {
 
     fn link_at(&self, spot: usize) -> Option<Link> {
         let mut left = spot;
-        for row in &self.rows {
+        for (place, row) in self.rows.iter().enumerate() {
             if left < row.tally {
-                return row.link_at(left);
+                // A row holds links with the ASes at later places than its own alone.
+                return row.link_at(place + 1, left);
             }
             left -= row.tally;
         }

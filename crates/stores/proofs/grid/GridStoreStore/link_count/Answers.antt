@@ -1,4 +1,4 @@
-use Rattle.std.proofs.Common.{◌≡◌, ◌<◌, ◌^◌, ◌∙◌, rules, arith}
+use Rattle.std.proofs.Common.{◌≡◌, ◌<◌, ◌^◌, rules, arith}
 use Rattle.std.specs.List.{sum_by}
 use Rattle.stores.specs.Grid.{grid_cells}
 use Rattle.stores.proofs.GridRows.{tallies, cells_length, filled_length}
@@ -14,4 +14,4 @@ pub returns : goal.returns
 returns c =
     let s = c.args.self.now in
     let is : c.sum.result ≡ sum_by (λ r. r.tally) s.rows = search rules in
-    is ∙ tallies s.rows
+    omega (arith, tallies s.rows)

@@ -1,12 +1,25 @@
-use Rattle.std.proofs.Common.{sym, ◌∙◌}
-use Rattle.std.specs.Option.{option_to_list}
+use Rattle.std.proofs.Common.{◌-◌, drop, sym, ap, ◌∙◌, rules, arith}
+use Rattle.std.specs.List.{slice_get}
+use Rattle.std.specs.Option.{is_some, option_copied, option_flatten}
+use Rattle.std.proofs.lemmas.List.{length-drop, take_all}
 use Rattle.std.proofs.lemmas.Iterator.{YieldsList-from_slice}
-use Rattle.std.proofs.lemmas.Iterator.Consumers.{nth_from_yields_List, YieldsList-from_copied, YieldsList-at}
-use Rattle.std.proofs.lemmas.Iterator.Adapters.{option_map_id, YieldsList-from_flatten, YieldsList-from_once}
+use Rattle.std.proofs.lemmas.Iterator.Consumers.{nth_from_yields_List, YieldsList-at, YieldsList-from_filter}
+use borrow.Author.Tests.{tests}
+use Rattle.stores.proofs.GridRows.{held_get}
 use Rattle.stores.proofs.grid.rows.GridRow.link_at.Goals as goal
 
 pub returns : goal.returns
 returns c =
-    let cells = YieldsList-from_copied (YieldsList-at c.copied.ensures.source (YieldsList-from_slice c.args.self.now.cells c.iter.ensures.rest)) in
-    let links = YieldsList-from_flatten _ _ (λ x. x) option_to_list (λ x j opens. YieldsList-from_once x opens.0) (YieldsList-at c.flatten.ensures.source cells) c.flatten.ensures.front c.flatten.ensures.back c.flatten.ensures.done in
-    sym (option_map_id c.nth.result) ∙ nth_from_yields_List _ _ _ c.nth.ensures.ran links
+    let past = drop c.args.from c.args.self.now.cells in
+    let whole = take_all (24 - c.args.from) past (omega (arith, length-drop c.args.from c.args.self.now.cells, c.args.self.now.sized)) in
+    let cells = YieldsList-at c.filter.ensures.source (YieldsList-from_slice past (c.iter.ensures.rest ∙ whole)) in
+    let came = nth_from_yields_List _ _ _ c.nth.ensures.ran (YieldsList-from_filter _ is_some cells c.filter.ensures.closure (λ x b q k. search (rules, tests))) in
+    ap (λ r. option_flatten (option_copied r)) (sym c.in_ok-nth.was) ∙ ap option_flatten came ∙ held_get past c.args.spot ∙ ap (λ links. slice_get links c.args.spot) c.requires.bare
+
+pub returns-in_err-nth : goal.returns-in_err-nth
+returns-in_err-nth c =
+    let past = drop c.args.from c.args.self.now.cells in
+    let whole = take_all (24 - c.args.from) past (omega (arith, length-drop c.args.from c.args.self.now.cells, c.args.self.now.sized)) in
+    let cells = YieldsList-at c.filter.ensures.source (YieldsList-from_slice past (c.iter.ensures.rest ∙ whole)) in
+    let came = nth_from_yields_List _ _ _ c.nth.ensures.ran (YieldsList-from_filter _ is_some cells c.filter.ensures.closure (λ x b q k. search (rules, tests))) in
+    c.from_residual.ensures ∙ ap (λ r. option_flatten (option_copied r)) (sym c.in_err-nth.was) ∙ ap option_flatten came ∙ held_get past c.args.spot ∙ ap (λ links. slice_get links c.args.spot) c.requires.bare
