@@ -11,8 +11,6 @@ use Rattle.table.specs.Memory.{small}
 use Rattle.board.specs.declared.types.BoardRefusal.TheVariants.{TableTooSmall}
 use Rattle.board.specs.Edits.{cleared, Opens}
 use Rattle.runs.specs.declared.types.Call.{Call}
-use Rattle.runs.specs.declared.types.Call.TheVariants.{Read}
-use Rattle.runs.specs.declared.types.ReadCall.{ReadCall}
 use Rattle.runs.specs.declared.types.Reply.{Reply}
 use Rattle.runs.specs.declared.types.RunRefusal.{RunRefusal}
 use Rattle.runs.specs.declared.types.RunRefusal.TheVariants.{OutOfMemory}
@@ -62,9 +60,9 @@ module _ {C : Type 0} (m : Measure C) (calls : List Call) where
       Ran m (fresh b) b' (take made calls) (vec_items replies) → Replays m b b' calls (Ok replies)
   made_all b {b'} {made} replies large all ran = (large, subst (λ xs. Ran m (fresh b) b' xs (vec_items replies)) (take_all made calls all) ran)
 
--- the next call of a list that leaves the links as they are
-pub read_more : {C : Type 0} (m : Measure C) (reads : List ReadCall) {p : Plain} {b b' : Board C} {made : ℕ} {replies : List (Reply C)} {reply : Reply C} (read : ReadCall) → made < length reads →
-    Ran m p b (take made (map Read reads)) replies → ((q : Plain) → Stands m q b → Played m q b' (Read (get_or reads made read)) reply) → Ran m p b' (take (made + 1) (map Read reads)) (replies ++ reply ∷ [])
-read_more m reads {p} {b} {b'} {made} {replies} {reply} read low ran plays =
-    made_more m (map Read reads) (Read read) (let same = length-map reads Read in omega arith) ran
-    (λ q stands. subst (λ call. Played m q b' call reply) (sym (get_or-map Read reads made read (Read read) low)) (plays q stands))
+-- the next one of a list whose elements each have a call
+pub mapped_more : {C T : Type 0} (m : Measure C) (call_of : T → Call) (xs : List T) {p : Plain} {b b' : Board C} {made : ℕ} {replies : List (Reply C)} {reply : Reply C} {call : Call} (x : T) → made < length xs →
+    call ≡ call_of (get_or xs made x) → Ran m p b (take made (map call_of xs)) replies → ((q : Plain) → Stands m q b → Played m q b' call reply) → Ran m p b' (take (made + 1) (map call_of xs)) (replies ++ reply ∷ [])
+mapped_more m call_of xs {p} {b} {b'} {made} {replies} {reply} {call} x low is ran plays =
+    made_more m (map call_of xs) (call_of x) (let same = length-map xs call_of in omega arith) ran
+    (λ q stands. subst (λ k. Played m q b' k reply) (is ∙ sym (get_or-map call_of xs made x (call_of x) low)) (plays q stands))

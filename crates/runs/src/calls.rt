@@ -1,5 +1,5 @@
 // The calls of a run, each with the memory that it brings.
-ghost use Rattle.std.specs.Prelude.{◌≡◌, ◌∷◌, length};
+ghost use Rattle.std.specs.Prelude.{◌≡◌, ◌∷◌, length, replicate, IfOk};
 ghost use Rattle.legality.specs.Networks.{net_of};
 ghost use Rattle.table.specs.Memory.{small, SameMemory};
 ghost use Rattle.routes.specs.Raw.{sending};
@@ -45,6 +45,16 @@ pub fn edit_board<S: EditableStore, C: Copy>(
     }
 }
 
+// Memory of so many places, with x in each.
+// Not `vec!`, which clones x: no measure says that a clone of its cost cannot fail.
+fn places<T: Copy>(heap: Global, count: usize, x: T) -> Result<Vec<T>, AllocError>
+    ensures { IfOk result (λ v. v.items ≡ replicate count x) }
+{
+    let mut items = Vec::new(heap);
+    items.resize(count, x)?;
+    Ok(items)
+}
+
 // Settles an AS with so much work memory.
 pub fn settle_with<S: Store, M: Measure>(
     heap: Global,
@@ -61,8 +71,8 @@ pub fn settle_with<S: Store, M: Measure>(
         place: 0,
         cost: M::start(),
     };
-    let mut slots = vec![in heap; slot; waiting]?;
-    let mut words = vec![in heap; 0; numbers]?;
+    let mut slots = places(heap, waiting, slot)?;
+    let mut words = places(heap, numbers, 0)?;
     let mut work = Work {
         waiting: slots.as_mut_slice(),
         numbers: words.as_mut_slice(),
@@ -81,7 +91,7 @@ pub fn send_with<S: Store, M: Measure>(
 ) -> Result<(Result<(M::Cost, usize), RouteRefusal>, Vec<u32>), AllocError>
     ensures { SentWith (sending M.measure (net_of (S.roster store.now) (S.book store.now)) table.now.entries.now table.now.marks.now source destination room) room result }
 {
-    let mut list = vec![in heap; 0; room]?;
+    let mut list = places(heap, room, 0)?;
     let answer = send::<S, M>(store, table, source, destination, list.as_mut_slice());
     Ok((answer, list))
 }

@@ -6,7 +6,7 @@ ghost use Rattle.runs.specs.Plain.{board_of};
 ghost use Rattle.runs.specs.Runs.{Replays};
 
 use crate::play::{play, play_read};
-use crate::types::{Call, ReadCall, Reply, RunRefusal};
+use crate::types::{AsCall, Call, ReadCall, Reply, RunRefusal};
 use board::edits::open;
 use measure::Measure;
 use network::stores::{EditableStore, Store};
@@ -23,10 +23,23 @@ pub fn replay<S: EditableStore, M: Measure>(
     ensures same { SameMemory table.old table.new }
     ensures replays { Replays M.measure (board_of (S.Store.roster store.old) (S.Store.book store.old) (SomeT (S.limit store.old)) table.old) (board_of (S.Store.roster store.new) (S.Store.book store.new) (SomeT (S.limit store.new)) table.new) calls.now result }
 {
+    replay_of::<S, M, Call>(heap, store, table, calls)
+}
+
+// The same over anything that has a call to make.
+pub fn replay_of<S: EditableStore, M: Measure, T: AsCall>(
+    heap: Global,
+    store: &mut S,
+    table: &mut Table<'_, '_, M::Cost>,
+    calls: &[T],
+) -> Result<Vec<Reply<M::Cost>>, RunRefusal>
+    ensures same { SameMemory table.old table.new }
+    ensures replays { Replays M.measure (board_of (S.Store.roster store.old) (S.Store.book store.old) (SomeT (S.limit store.old)) table.old) (board_of (S.Store.roster store.new) (S.Store.book store.new) (SomeT (S.limit store.new)) table.new) (map T.call calls.now) result }
+{
     open(store, table)?;
     let mut replies = Vec::new(heap);
     for call in calls {
-        let reply = play::<S, M>(heap, store, table, *call)?;
+        let reply = play::<S, M>(heap, store, table, call.as_call())?;
         replies.push(reply)?;
     }
     Ok(replies)

@@ -1,5 +1,6 @@
 // Calls on a board, what they answer, and why a run breaks off.
 ghost use Rattle.std.specs.Prelude.{◌≡◌};
+ghost use Rattle.runs.specs.declared.types.Call.{Call as CallT};
 ghost use Rattle.runs.specs.declared.types.RunRefusal.TheVariants.{Board as BoardT, OutOfMemory as OutOfMemoryT};
 
 use board::types::BoardRefusal;
@@ -54,6 +55,22 @@ pub enum ReadCall {
 pub enum Call {
     Edit(Edit),
     Read(ReadCall),
+}
+
+// What has a call to make.
+pub trait AsCall {
+    ghost call: { Self → CallT };
+
+    fn as_call(&self) -> Call
+        ensures { result ≡ call self.now };
+}
+
+impl AsCall for Call {
+    ghost call = { λ x. x };
+
+    fn as_call(&self) -> Call {
+        *self
+    }
 }
 
 // What a call answered; a send, with its list as it stands afterwards.

@@ -62,10 +62,12 @@ fn parse_text(heap: Global, text: &str) -> Result<Script, ScriptFault>
     ensures { MatchResult result Whole (λ fault. 1 ≤ fault.line) }
 {
     let mut script = None;
+    let mut lines = 0;
     for (above, line) in text.lines().enumerate() {
         read_line(heap, &mut script, line).map_err(|kind| kind.below(above))?;
+        lines = above + 1;
     }
-    script.ok_or_else(|| FaultKind::NoRoster.below(text.lines().count()))
+    script.ok_or_else(|| FaultKind::NoRoster.below(lines))
 }
 
 // How many lines end before a byte.

@@ -2,9 +2,9 @@
 ghost use Rattle.std.specs.Prelude.{IfOk};
 ghost use Rattle.scripts.specs.Scripts.{Answers, Refused};
 
-use crate::types::Script;
+use crate::types::{Script, ScriptCall};
 use measure::delay::Delay;
-use runs::replay::replay;
+use runs::replay::replay_of;
 use runs::types::{Reply, RunRefusal};
 use std::alloc::Global;
 use stores::grid::{GridStore, MOST_ASES};
@@ -15,7 +15,6 @@ pub fn run_script(heap: Global, script: &Script) -> Result<Vec<Reply<u32>>, RunR
     ensures answers { IfOk result (λ replies. Answers script.now replies) }
     ensures refused { Refused result }
 {
-    let calls = script.calls_alone(heap)?;
     let mut entries = [Entry::blank(0u32); 2 * MOST_ASES * MOST_ASES];
     let mut marks = [0u8; MOST_ASES];
     let mut store = GridStore::new(&script.roster);
@@ -23,5 +22,5 @@ pub fn run_script(heap: Global, script: &Script) -> Result<Vec<Reply<u32>>, RunR
         entries: &mut entries,
         marks: &mut marks,
     };
-    replay::<GridStore, Delay>(heap, &mut store, &mut table, &calls)
+    replay_of::<GridStore, Delay, ScriptCall>(heap, &mut store, &mut table, &script.calls)
 }

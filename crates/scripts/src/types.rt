@@ -1,12 +1,13 @@
 // A script that is read, and what is wrong with one.
-ghost use Rattle.std.specs.Prelude.{◌≡◌, ◌≤◌, IfOk, map, string_bytes, Some as SomeT};
+ghost use Rattle.std.specs.Prelude.{◌≡◌, ◌≤◌, string_bytes, Some as SomeT};
 ghost use Rattle.scripts.specs.declared.types.FaultKind.TheVariants.{BadRoster as BadRosterT, NotAClass as NotAClassT, OutOfMemory as OutOfMemoryT};
-ghost use Rattle.scripts.specs.Faults.{fault_words, fault_text};
+ghost use Rattle.std.specs.Str.Parse.{error_kind};
+ghost use Rattle.scripts.specs.Faults.{fault_words, fault_text, number_fault};
 
 use legality::types::UnknownClass;
 use network::types::RosterRefusal;
-use runs::types::Call;
-use std::alloc::{AllocError, AllocFailed, Global};
+use runs::types::{AsCall, Call};
+use std::alloc::{AllocError, AllocFailed};
 use std::convert::AsStr;
 use std::error::Error;
 use std::fmt;
@@ -27,20 +28,19 @@ impl AsStr for ScriptCall {
     }
 }
 
+impl AsCall for ScriptCall {
+    ghost call = { λ x. x.call };
+
+    fn as_call(&self) -> Call {
+        self.call
+    }
+}
+
 // The ASes of a script, and its calls.
 #[derive(Drop)]
 pub struct Script {
     pub roster: Vec<u32>,
     pub calls: Vec<ScriptCall>,
-}
-
-impl Script {
-    // The calls alone.
-    pub(crate) fn calls_alone(&self, heap: Global) -> Result<Vec<Call>, AllocError>
-        ensures { IfOk result (λ calls. calls.items ≡ map (λ x. x.call) self.now.calls.items) }
-    {
-        self.calls.iter().map(|x| x.call).collect(heap)
-    }
 }
 
 // What is wrong with a line.
@@ -110,6 +110,8 @@ impl<T: Drop> From<AllocFailed<T>> for FaultKind {
 }
 
 impl From<ParseIntError> for FaultKind {
+    ghost from_gives = { λ error kind. kind ≡ number_fault (error_kind error) };
+
     fn from(error: ParseIntError) -> FaultKind {
         match error.kind() {
             IntErrorKind::PosOverflow => FaultKind::NumberTooLarge,

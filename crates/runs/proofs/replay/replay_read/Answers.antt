@@ -6,7 +6,7 @@ use Rattle.table.proofs.Same.{still_same}
 use Rattle.runs.specs.declared.types.Call.TheVariants.{Read}
 use Rattle.runs.specs.Plain.{Board, board_of, fresh}
 use Rattle.runs.specs.Runs.{Ran}
-use Rattle.runs.proofs.Ran.{ran_none, read_more, broke_off, made_all}
+use Rattle.runs.proofs.Ran.{ran_none, mapped_more, broke_off, made_all}
 use Rattle.runs.proofs.replay.replay_read.Given as given
 use Rattle.runs.proofs.replay.replay_read.Goals as goal
 use Rattle.runs.proofs.replay.replay_read.Goals.{In_ok-open}
@@ -37,13 +37,13 @@ returns-in_err-push-clause-replays g c =
     let i = c.loop-read.invariant in
     let q = c.in_ok-reply.ensures in
     let start = (goal.at.returns-in_err-push-clause-replays g c).In_ok-open in
-    broke_off m (map Read c.args.calls.now) (before g start) (c.loop-read.read-index + 1) (opened g start).0 (read_more m c.args.calls.now _ c.loop-read-test.true i.1 (q.plays None)) refl (err_from_is_err_and c.from_residual-in_err-push.result c.from_residual-in_err-push.ensures.1)
+    broke_off m (map Read c.args.calls.now) (before g start) (c.loop-read.read-index + 1) (opened g start).0 (mapped_more m Read c.args.calls.now _ c.loop-read-test.true refl i.1 (q.plays None)) refl (err_from_is_err_and c.from_residual-in_err-push.result c.from_residual-in_err-push.ensures.1)
 
 pub loop-read-preserved : goal.loop-read-preserved
 loop-read-preserved g c =
     let i = c.loop-read.invariant in
     let q = c.in_ok-reply.ensures in
-    (still_same i.0 q.same, simp c.in_ok-push.ensures.items (read_more g.M.Measure.measure c.args.calls.now _ c.loop-read-test.true i.1 (q.plays None)))
+    (still_same i.0 q.same, simp c.in_ok-push.ensures.items (mapped_more g.M.Measure.measure Read c.args.calls.now _ c.loop-read-test.true refl i.1 (q.plays None)))
 
 pub returns-clause-replays : goal.returns-clause-replays
 returns-clause-replays g c =

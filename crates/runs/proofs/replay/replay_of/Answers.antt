@@ -1,13 +1,14 @@
-use Rattle.std.proofs.Common.{◌≡◌, ◌+◌, false, [], length, Some, refl}
+use Rattle.std.proofs.Common.{◌≡◌, ◌+◌, false, [], map, length, Some, refl, ap, ◌∙◌, arith}
+use Rattle.std.proofs.lemmas.List.{length-map}
 use Rattle.std.proofs.lemmas.Result.{err_from_is_err_and}
 use Rattle.table.specs.Memory.{small}
 use Rattle.table.proofs.Same.{still_same}
 use Rattle.runs.specs.Plain.{Board, board_of, fresh}
 use Rattle.runs.specs.Runs.{Ran}
-use Rattle.runs.proofs.Ran.{ran_none, made_more, broke_off, made_all}
-use Rattle.runs.proofs.replay.replay.Given as given
-use Rattle.runs.proofs.replay.replay.Goals as goal
-use Rattle.runs.proofs.replay.replay.Goals.{In_ok-open}
+use Rattle.runs.proofs.Ran.{ran_none, mapped_more, broke_off, made_all}
+use Rattle.runs.proofs.replay.replay_of.Given as given
+use Rattle.runs.proofs.replay.replay_of.Goals as goal
+use Rattle.runs.proofs.replay.replay_of.Goals.{In_ok-open}
 
 -- the board before it is opened
 abbrev before : (g : given.Over) (c : In_ok-open g) → Board g.row.M-Cost.Denot
@@ -27,7 +28,7 @@ returns-in_err-reply-clause-replays g c =
     let i = c.loop-call.invariant in
     let q = c.in_err-reply.ensures in
     let start = (goal.at.returns-in_err-reply-clause-replays g c).In_ok-open in
-    broke_off g.M.Measure.measure c.args.calls.now (before g start) c.loop-call.call-index (opened g start).0 i.1 q.plays.1 (err_from_is_err_and c.from_residual-in_err-reply.result c.from_residual-in_err-reply.ensures.1)
+    broke_off g.M.Measure.measure (map g.T.AsCall.call c.args.calls.now) (before g start) c.loop-call.call-index (opened g start).0 i.1 q.plays.1 (err_from_is_err_and c.from_residual-in_err-reply.result c.from_residual-in_err-reply.ensures.1)
 
 pub returns-in_err-push-clause-replays : goal.returns-in_err-push-clause-replays
 returns-in_err-push-clause-replays g c =
@@ -35,16 +36,16 @@ returns-in_err-push-clause-replays g c =
     let i = c.loop-call.invariant in
     let q = c.in_ok-reply.ensures in
     let start = (goal.at.returns-in_err-push-clause-replays g c).In_ok-open in
-    broke_off m c.args.calls.now (before g start) (c.loop-call.call-index + 1) (opened g start).0 (made_more m c.args.calls.now _ c.loop-call-test.true i.1 q.plays) refl (err_from_is_err_and c.from_residual-in_err-push.result c.from_residual-in_err-push.ensures.1)
+    broke_off m (map g.T.AsCall.call c.args.calls.now) (before g start) (c.loop-call.call-index + 1) (opened g start).0 (mapped_more m g.T.AsCall.call c.args.calls.now c.call-item.result c.loop-call-test.true (c.as_call.ensures ∙ ap g.T.AsCall.call c.call-item.is) i.1 q.plays) refl (err_from_is_err_and c.from_residual-in_err-push.result c.from_residual-in_err-push.ensures.1)
 
 pub loop-call-preserved : goal.loop-call-preserved
 loop-call-preserved g c =
     let i = c.loop-call.invariant in
     let q = c.in_ok-reply.ensures in
-    (still_same i.0 q.same, simp c.in_ok-push.ensures.items (made_more g.M.Measure.measure c.args.calls.now _ c.loop-call-test.true i.1 q.plays))
+    (still_same i.0 q.same, simp c.in_ok-push.ensures.items (mapped_more g.M.Measure.measure g.T.AsCall.call c.args.calls.now c.call-item.result c.loop-call-test.true (c.as_call.ensures ∙ ap g.T.AsCall.call c.call-item.is) i.1 q.plays))
 
 pub returns-clause-replays : goal.returns-clause-replays
 returns-clause-replays g c =
     let i = c.loop-call.invariant in
     let start = (goal.at.returns-clause-replays g c).In_ok-open in
-    made_all g.M.Measure.measure c.args.calls.now (before g start) c.loop-call.replies (opened g start).0 c.loop-call-test.false i.1
+    made_all g.M.Measure.measure (map g.T.AsCall.call c.args.calls.now) (before g start) c.loop-call.replies (opened g start).0 (let same = length-map c.args.calls.now g.T.AsCall.call in omega (arith, c.loop-call-test.false)) i.1
