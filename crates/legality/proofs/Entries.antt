@@ -5,12 +5,16 @@ use Rattle.measure.specs.Measures.{Measure}
 use Rattle.legality.specs.declared.types.Class.{Class}
 use Rattle.legality.specs.Networks.{Network}
 use Rattle.legality.specs.Paths.{Route}
-use Rattle.legality.specs.Tables.{Table, Chosen, LocalAt, Shortest, GlobalAt, Global}
+use Rattle.legality.specs.Tables.{Table, Offers, Chosen, LocalAt, Shortest, GlobalAt, Global}
 
 module _ {C : Type 0} {m : Measure C} {net : Network} {t : Table C} {a : ℕ} {e : Class} where
   pub chosen_at : {b : ℕ} {c : C} → LocalAt m net t a e → t a e ≡ Some (b, c) → Chosen m net t a e b c
   chosen_at (LocalAt.blank q none) p = absurd (none_some q p)
   chosen_at (LocalAt.filled x k q best) p = let same = same_pair q p in subst₂ (Chosen m net t a e) same.0 same.1 best
+
+  pub no_offer_at : LocalAt m net t a e → t a e ≡ None → (b : ℕ) (c : C) → ¬ Offers m net t a e b c
+  no_offer_at (LocalAt.blank q none) p = none
+  no_offer_at (LocalAt.filled x k q best) p = absurd (none_some p q)
 
   pub shortest_at : {d b : ℕ} {c : C} → GlobalAt m net t d a e → t a e ≡ Some (b, c) → Shortest m net d a e b c
   shortest_at (GlobalAt.blank q none) p = absurd (none_some q p)

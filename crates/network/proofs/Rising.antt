@@ -60,7 +60,7 @@ stands_among [] i h = absurd (omega arith)
 stands_among (x ∷ xs) zero h = inl refl
 stands_among (x ∷ xs) (suc i) h = inr (stands_among xs i (omega arith))
 
--- what stands at a place of a list
+-- no AS stands twice
 pub rising_inj : (roster : List ℕ) → Rising roster → (i j : ℕ) → i < length roster → j < length roster → get_or roster i 0 ≡ get_or roster j 0 → i ≡ j
 rising_inj roster up i j hi hj e = go (cases_order i j)
   where

@@ -1,5 +1,5 @@
 -- What waits among slots none of whose places stands twice, and what a write makes of it. Assumes nothing.
-use Rattle.std.proofs.Common.{◌≡◌, ℕ, zero, suc, ◌<◌, ◌≤◌, ◌+◌, cond, eqb, ◌≢◌, List, [], ◌∷◌, ◌++◌, length, get_or, take, set, is_some, Some, None, sym, refl, ap, ◌∙◌, ⊎_elim, arith}
+use Rattle.std.proofs.Common.{◌≡◌, ℕ, zero, suc, ◌<◌, ◌≤◌, ◌+◌, cond, eqb, ◌≢◌, List, [], ◌∷◌, ◌++◌, length, get_or, take, set, is_some, Some, None, Option, sym, refl, ap, ◌∙◌, subst, ⊎_elim, arith}
 use Rattle.std.specs.Map.{update}
 use Rattle.std.specs.List.{position, position_from, list_any, Contains}
 use Rattle.std.proofs.lemmas.List.{take-map, length-take-le, length-map, get_or-take, get_or-map, map-set, get_or-set_same, get_or-set_other}
@@ -22,6 +22,9 @@ there ys i = get_or (places ys) i 0
 module _ {C : Type 0} where
   pub place_at : (ys : List (Slot C)) (i : ℕ) (d : Slot C) → i < length ys → there ys i ≡ (get_or ys i d).place
   place_at ys i d h = get_or-map (λ t. t.place) ys i d 0 h
+
+  pub same_slot : (s : Slot C) (q : ℕ) (c : C) → s.place ≡ q → s.cost ≡ c → s ≡ slot q c
+  same_slot s q c e f = ap (λ p. slot p s.cost) e ∙ ap (slot q) f
 
   place_set : (ys : List (Slot C)) (i k : ℕ) (s : Slot C) → i < length ys → there (set ys i s) k ≡ cond (eqb k i) s.place (there ys k)
   place_set ys i k s lt =
@@ -67,6 +70,22 @@ module _ {C : Type 0} where
       (λ same. (0, omega arith, grind (arith, nat_tests)))
       (λ (ne : q ≢ y.place). Contains-append_right (y ∷ []) ys (slot q c) (waits_from ys q c (grind (arith, nat_tests))))
       (cases_eq q y.place)
+
+  -- what waits is f, where f has just what stands among the first n slots
+  pub waits_is : (n : ℕ) (xs : List (Slot C)) → n ≤ length xs → Apart n xs →
+      (f : ℕ → Option C) → ((q : ℕ) (c : C) → Contains (take n xs) (slot q c) → f q ≡ Some c) → ((q : ℕ) (c : C) → f q ≡ Some c → Contains (take n xs) (slot q c)) →
+      (q : ℕ) → waits (take n xs) q ≡ f q
+  waits_is n xs fits a f in' out q = both (waits (take n xs) q) (f q) refl refl
+    where
+      stands : (c : C) → f q ≡ Some c → waits (take n xs) q ≡ Some c
+      stands c e =
+          let h = out q c e in
+          subst (λ s. waits (take n xs) s.place ≡ Some s.cost) h.2 (waits_at (take n xs) (apart_take n xs fits a) h.0 (slot q c) h.1)
+
+      both : (o p : Option C) → waits (take n xs) q ≡ o → f q ≡ p → o ≡ p
+      both None None w e = refl
+      both None (Some c) w e = sym w ∙ stands c e
+      both (Some c) p w e = sym (in' q c (waits_from (take n xs) q c w)) ∙ e
 
   -- one more slot, and a slot in the place of another
   pub waits_push : (ys : List (Slot C)) (s : Slot C) (q : ℕ) → waits ys s.place ≡ None → waits (ys ++ s ∷ []) q ≡ update eqb (waits ys) s.place (Some s.cost) q
