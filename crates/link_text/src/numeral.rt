@@ -32,11 +32,13 @@ fn extended(number: u32, digit: u32) -> Numeral
 fn step(numeral: Numeral, byte: u8) -> Numeral
     ensures { result ≡ next numeral byte }
 {
-    match (numeral, char::from(byte).to_digit(10)) {
-        (Numeral::Blank, Some(digit)) => Numeral::Number(digit),
-        (Numeral::Blank, None) if byte == b' ' => Numeral::Blank,
-        (Numeral::Number(number), Some(digit)) if number != 0 => extended(number, digit),
-        (Numeral::TooGreat, Some(_)) => Numeral::TooGreat,
+    match (numeral, byte) {
+        (Numeral::Blank, b' ') => Numeral::Blank,
+        (Numeral::Blank, b'0'..=b'9') => Numeral::Number(u32::from(byte - b'0')),
+        (Numeral::Number(number), b'0'..=b'9') if number != 0 => {
+            extended(number, u32::from(byte - b'0'))
+        }
+        (Numeral::TooGreat, b'0'..=b'9') => Numeral::TooGreat,
         _ => Numeral::Broken,
     }
 }

@@ -3,12 +3,14 @@
 
 use cases::{Case, CaseFile, read_input};
 use listing::{list_routes, print_listing};
+use std::io::Write;
 
 fn run_list(rt: &HostRuntime, case: Case<'_>) -> anyhow::Result<()> {
     let listing = list_routes(rt.alloc(), case.text)?;
     let page = print_listing(rt.alloc(), &listing)?;
     case.print_heading(rt)?;
-    print!(rt; "{page}")?;
+    // The page's bytes in one write: printed by a format they would go out in pieces.
+    rt.stdout().write_all(page.as_bytes())?;
     Ok(())
 }
 

@@ -1,12 +1,13 @@
 // What the lister tells.
 use link_list::types::Fault;
 
-// A route: the next AS, the number of links and the delay.
+// A route: the next AS, the number of links and the delay. The two numbers of 32 bits stand side by side, so that a row takes no more memory
+// than its numbers need.
 #[derive(Clone, Copy, PartialEq, Eq, Debug, Default)]
 pub struct Route {
     pub next: u32,
-    pub links: usize,
     pub delay: u32,
+    pub links: usize,
 }
 
 // The route from one AS to another, if there is a legal path.

@@ -11,7 +11,7 @@ use measure::hops_width::HopsWidth;
 use network::stores::Store;
 use settle::settle;
 use settle::types::Work;
-use std::alloc::Global;
+use std::alloc::{AllocError, Global};
 use std::collections::BTreeSet;
 use std::fmt::Display;
 use stores::grid::{GridStore, MOST_ASES};
@@ -72,34 +72,44 @@ fn print_column<S: Store, C: Copy + Display>(
     Ok(())
 }
 
-// Settles every AS of a list under a measure, and prints the columns.
-fn run_under<M: Named>(rt: &HostRuntime, ases: &[u32], text: &[u8]) -> anyhow::Result<()>
+// The entries of a board and the slots of a settle, on the heap: no proof closes that an array of them fits at every type of cost.
+#[derive(Drop)]
+struct Memory<C> {
+    entries: Vec<Entry<C>>,
+    slots: Vec<Slot<C>>,
+}
+
+impl<C: Copy> Memory<C> {
+    fn new(heap: Global, cost: C) -> Result<Memory<C>, AllocError> {
+        let entries = vec![in heap; Entry { next: 0, cost }; 2 * MOST_ASES * MOST_ASES]?;
+        let slots = vec![in heap; Slot { place: 0, cost }; 2 * MOST_ASES]?;
+        Ok(Memory { entries, slots })
+    }
+}
+
+// Settles every AS of the store under a measure, and prints the columns.
+fn run_under<M: Named>(
+    rt: &HostRuntime,
+    store: &GridStore,
+    memory: &mut Memory<M::Cost>,
+) -> anyhow::Result<()>
 where
     M::Cost: Display,
 {
-    // Entries and slots stand on the heap: no proof closes that an array of them fits at every type of cost.
-    let heap = rt.alloc();
-    let cost = M::start();
-    let mut entries = vec![in heap; Entry { next: 0, cost }; 2 * MOST_ASES * MOST_ASES]?;
-    let mut marks = [0u8; MOST_ASES];
-    let mut slots = vec![in heap; Slot { place: 0, cost }; 2 * MOST_ASES]?;
-    let mut numbers = [0u32; 2 * MOST_ASES];
     let mut table = Table {
-        entries: &mut entries,
-        marks: &mut marks,
+        entries: &mut memory.entries,
+        marks: &mut [0u8; MOST_ASES],
     };
     let mut work = Work {
-        waiting: &mut slots,
-        numbers: &mut numbers,
+        waiting: &mut memory.slots,
+        numbers: &mut [0u32; 2 * MOST_ASES],
     };
-    let mut store = GridStore::new(ases);
-    let _ = load(&mut store, &mut table, text);
     let ases = (0..store.as_count()).map_while(|place| store.as_at(place));
     for (place, destination) in ases.enumerate() {
-        if let Ok(count) = settle::<GridStore, M>(&store, &mut table, &mut work, destination) {
+        if let Ok(count) = settle::<GridStore, M>(store, &mut table, &mut work, destination) {
             println!(rt; "{} to {destination}: {count}", M::NAME)?;
         }
-        print_column(rt, &store, &table, place)?;
+        print_column(rt, store, &table, place)?;
     }
     Ok(())
 }
@@ -117,11 +127,21 @@ fn roster_in(heap: Global, text: &[u8]) -> anyhow::Result<Vec<u32>> {
     Ok(ases.iter().copied().collect(heap)?)
 }
 
+// One store for both measures; all memory of a case is there before the first line of it is printed.
 fn run_list(rt: &HostRuntime, case: Case<'_>) -> anyhow::Result<()> {
-    let ases = roster_in(rt.alloc(), case.text)?;
+    let heap = rt.alloc();
+    let ases = roster_in(heap, case.text)?;
+    let mut delay = Memory::new(heap, Delay::start())?;
+    let mut hops_width = Memory::new(heap, HopsWidth::start())?;
+    let mut store = GridStore::new(&ases);
+    let mut table = Table {
+        entries: &mut delay.entries,
+        marks: &mut [0u8; MOST_ASES],
+    };
+    let _ = load(&mut store, &mut table, case.text);
     case.print_heading(rt)?;
-    run_under::<Delay>(rt, &ases, case.text)?;
-    run_under::<HopsWidth>(rt, &ases, case.text)
+    run_under::<Delay>(rt, &store, &mut delay)?;
+    run_under::<HopsWidth>(rt, &store, &mut hops_width)
 }
 
 fn main(rt: HostRuntime) -> anyhow::Result<()> {
