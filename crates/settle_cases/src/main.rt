@@ -7,7 +7,7 @@ use link_list::load::load;
 use link_text::reader::Reader;
 use measure::Measure;
 use measure::delay::Delay;
-use measure::hops_width::HopsWidth;
+use measure::hops_width::{HopsWidth, HopsWidthCost};
 use network::stores::Store;
 use settle::settle;
 use settle::types::Work;
@@ -127,28 +127,37 @@ fn roster_in(heap: Global, text: &[u8]) -> anyhow::Result<Vec<u32>> {
     Ok(ases.iter().copied().collect(heap)?)
 }
 
-// One store for both measures; all memory of a case is there before the first line of it is printed.
-fn run_list(rt: &HostRuntime, case: Case<'_>) -> anyhow::Result<()> {
-    let heap = rt.alloc();
-    let ases = roster_in(heap, case.text)?;
-    let mut delay = Memory::new(heap, Delay::start())?;
-    let mut hops_width = Memory::new(heap, HopsWidth::start())?;
+// The memory of a board under each measure, for all cases.
+#[derive(Drop)]
+struct Memories {
+    delay: Memory<u32>,
+    hops_width: Memory<HopsWidthCost>,
+}
+
+// One store for both measures. What an earlier case left in the memory is not printed: a column is settled before it is.
+fn run_list(rt: &HostRuntime, memories: &mut Memories, case: Case<'_>) -> anyhow::Result<()> {
+    let ases = roster_in(rt.alloc(), case.text)?;
     let mut store = GridStore::new(&ases);
     let mut table = Table {
-        entries: &mut delay.entries,
+        entries: &mut memories.delay.entries,
         marks: &mut [0u8; MOST_ASES],
     };
     let _ = load(&mut store, &mut table, case.text);
     case.print_heading(rt)?;
-    run_under::<Delay>(rt, &store, &mut delay)?;
-    run_under::<HopsWidth>(rt, &store, &mut hops_width)
+    run_under::<Delay>(rt, &store, &mut memories.delay)?;
+    run_under::<HopsWidth>(rt, &store, &mut memories.hops_width)
 }
 
 fn main(rt: HostRuntime) -> anyhow::Result<()> {
     let bytes = read_input(&rt)?;
+    let heap = rt.alloc();
+    let mut memories = Memories {
+        delay: Memory::new(heap, Delay::start())?,
+        hops_width: Memory::new(heap, HopsWidth::start())?,
+    };
     // A loop in each case program: a public function that ran a closure here would ask its callers that it may be called.
     for case in CaseFile::new(&bytes) {
-        run_list(&rt, case)?;
+        run_list(&rt, &mut memories, case)?;
     }
     Ok(())
 }

@@ -1,16 +1,15 @@
 -- The rows of a grid store, and the cells of all of them. Assumes nothing.
 use Rattle.std.proofs.Common.{◌≡◌, ℕ, true, zero, suc, ◌+◌, ◌-◌, ◌*◌, ◌<◌, ◌≤◌, List, [], ◌∷◌, ◌++◌, length, get_or, drop, set, replicate, Some, None, Option, sym, refl, ap, subst, ◌∙◌, arith}
-use Rattle.std.specs.List.{flat_map, sum_by, filter, slice_get}
+use Rattle.std.specs.List.{flat_map, sum_by}
 use Rattle.std.specs.Int.{from_bool}
-use Rattle.std.specs.Option.{option_to_list, option_flatten, is_some}
+use Rattle.std.specs.Option.{option_to_list, is_some}
 use Rattle.std.proofs.lemmas.List.{length-append, get_or_append_left, get_or-append-add, set-append_left, set-append_right, drop_more, replicate-append-replicate}
 use Rattle.std.proofs.lemmas.List.Concat.{flat_map-append}
 use Rattle.std.proofs.lemmas.List.Sums.{sum_by-cons}
 use Rattle.network.specs.declared.types.Link.{Link}
 use Rattle.stores.specs.declared.grid.rows.GridRow.{GridRow}
-use Rattle.stores.specs.declared.grid.cells.GridStore.{GridStore}
 use Rattle.stores.specs.Cells.{filled, fit}
-use Rattle.stores.specs.CellsLemmas.{fit_empty, filled_empty, fit_at}
+use Rattle.stores.specs.CellsLemmas.{fit_empty, filled_empty}
 
 abbrev pub cells_in : List GridRow → List (Option Link)
 cells_in rows = flat_map (λ r. r.cells) rows
@@ -87,29 +86,3 @@ filled_written (Some x ∷ cells) (suc i) v h = omega (arith, filled_written cel
 pub held_few : (v : Option Link) → from_bool (is_some v) ≤ 1
 held_few None = omega arith
 held_few (Some l) = omega arith
-
--- the cells that hold a link, and the links in them: in the same order
-pub held_get : (cells : List (Option Link)) (spot : ℕ) → option_flatten (slice_get (filter is_some cells) spot) ≡ slice_get (filled cells) spot
-held_get [] spot = refl
-held_get (None ∷ cells) spot = held_get cells spot
-held_get (Some l ∷ cells) zero = refl
-held_get (Some l ∷ cells) (suc spot) = held_get cells spot
-
--- no cell before the cell n holds a link
-pub filled_past : (cells : List (Option Link)) (n : ℕ) → ((j : ℕ) → j < n → get_or cells j None ≡ None) → filled (drop n cells) ≡ filled cells
-filled_past cells zero h = refl
-filled_past [] (suc n) h = refl
-filled_past (None ∷ cells) (suc n) h = filled_past cells n (λ j k. h (suc j) (omega (arith, k)))
-filled_past (Some l ∷ cells) (suc n) h = let first = h 0 (omega arith) in let z : ◌≡◌ {A = ℕ} 0 1 = cc in absurd (omega arith)
-
--- the links of the row i stand in the cells after the cell i
-pub row_past : (s : GridStore) (i : ℕ) (d : GridRow) → i < 24 → filled (drop (i + 1) (get_or s.rows i d).cells) ≡ filled (get_or s.rows i d).cells
-row_past s i d h = filled_past (get_or s.rows i d).cells (i + 1) (λ j k. bare j k (get_or (get_or s.rows i d).cells j None) refl)
-  where
-    bare : (j : ℕ) → j < i + 1 → (v : Option Link) → get_or (get_or s.rows i d).cells j None ≡ v → v ≡ None
-    bare j k None e = refl
-    bare j k (Some l) e =
-        let n = s.sized in
-        let p = fit_at s.ases.items s.rising 0 (24 * i + j) (24 * i + j) (cells_in s.rows) l (omega arith) s.placed (cell_read s.rows i j d (omega arith) (omega arith) ∙ e) in
-        let o = p.ordered in
-        absurd (omega arith)

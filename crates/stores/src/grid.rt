@@ -107,10 +107,9 @@ impl Store for GridStore {
 
     fn link_at(&self, spot: usize) -> Option<Link> {
         let mut left = spot;
-        for (place, row) in self.rows.iter().enumerate() {
+        for row in &self.rows {
             if left < row.tally {
-                // A row holds links with the ASes at later places than its own alone.
-                return row.link_at(place + 1, left);
+                return row.link_at(left);
             }
             left -= row.tally;
         }

@@ -1,5 +1,5 @@
 // A row of the cells of the grid store.
-ghost use Rattle.std.specs.Prelude.{◌≡◌, ◌<◌, ◌≤◌, drop, length, slice_set, slice_get};
+ghost use Rattle.std.specs.Prelude.{◌≡◌, ◌<◌, length, slice_set, slice_get};
 ghost use Rattle.stores.specs.Cells.{filled};
 
 use super::cells::MOST_ASES;
@@ -21,17 +21,20 @@ pub(super) const BARE: GridRow = GridRow {
 };
 
 impl GridRow {
-    // The link at a place among those of the row, of whose cells none before `from` holds a link.
-    pub(super) fn link_at(&self, from: usize, spot: usize) -> Option<Link>
-        requires within { from ≤ 24 }
-        requires bare { filled (drop from self.now.cells) ≡ filled self.now.cells }
+    // The link at a place among those of the row: a loop over all cells, since it is by far the fastest, and settling rests on it.
+    pub(super) fn link_at(&self, spot: usize) -> Option<Link>
         ensures { result ≡ slice_get (filled self.now.cells) spot }
     {
-        // The cells are tested where they stand: `flatten` would copy each of them out.
-        *self.cells[from..]
-            .iter()
-            .filter(|cell| cell.is_some())
-            .nth(spot)?
+        let mut left = spot;
+        for cell in &self.cells {
+            if let Some(link) = cell {
+                if left == 0 {
+                    return Some(*link);
+                }
+                left -= 1;
+            }
+        }
+        None
     }
 
     // Writes a cell; the tally follows what comes and what goes.

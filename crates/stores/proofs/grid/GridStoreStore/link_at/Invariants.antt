@@ -5,5 +5,5 @@ use Rattle.stores.proofs.GridRows.{cells_in}
 use Rattle.stores.proofs.grid.GridStoreStore.link_at.Given as goal
 
 -- the link that is looked for, among those that are left
-abbrev pub invariant-loop-place : goal.invariant-loop-place
-invariant-loop-place l = slice_get (filled (cells_in (drop l.place l.self.rows))) l.left ≡ slice_get (filled (cells_in l.self.rows)) l.spot
+abbrev pub invariant-loop-row : goal.invariant-loop-row
+invariant-loop-row l = slice_get (filled (cells_in (drop l.row-index l.self.rows))) l.left ≡ slice_get (filled (cells_in l.self.rows)) l.spot
